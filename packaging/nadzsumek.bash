@@ -11,7 +11,7 @@ _nadzsumek_options() {
     lab\ trace) echo '--boot --program --plan --domain --steps --until --input -h --help' ;;
     lab\ assemble) echo '--listing --pokes -h --help' ;;
     lab\ disassemble) echo '-h --help' ;;
-    lab\ occam) echo '--code --listing --pokes --memory -h --help' ;;
+    lab\ occam) echo '--code --listing --pokes --core --sizes --memory -h --help' ;;
     lab\ rows) echo '--steps -h --help' ;;
     lab\ why) echo '--at --program --steps -h --help' ;;
     lab\ film) echo '--from --count --program --steps -h --help' ;;

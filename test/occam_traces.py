@@ -307,6 +307,18 @@ class Traces:
         self.assigned.add(index)
         before = set(self.assigned)
         self.put(indent + 2, ["SEQ"])
-        (self.sends if vector.is_sender else self.receives)(indent + 4, link, who)
+        if vector.is_sender or vector.kind != BYTE or self.chance(0.5) or not self.says_where(indent + 4, vector, at):
+            (self.sends if vector.is_sender else self.receives)(indent + 4, link, who)
         self.assigned = before
         self.variables.remove(index)
+
+    def says_where(self, indent, vector, at):
+        """Puts an input to a BYTE that says before by which channel of an array the message comes, if there is such a variable, and
+        says whether it did."""
+        found = [it for it in self.visible(BYTE) if it.size is None and it.span == WHOLE and self.can_change(it)]
+        if not found:
+            return False
+        name = self.random.choice(found).name
+        self.put(indent, [name, ":=", BYTE, "(", *at, ")"])
+        self.put(indent, [vector.name, "[", INT, name, "]", "?", name])
+        return True

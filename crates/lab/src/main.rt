@@ -19,7 +19,7 @@ mod why;
 
 use crate::debugging::print_debugging;
 use crate::film::print_film;
-use crate::occam_texts::print_occam;
+use crate::occam_texts::report_occam;
 use crate::replays::{print_drawing, print_replayed};
 use crate::rows::report_rows;
 use crate::scripts::print_script;
@@ -47,7 +47,7 @@ fn answer(rt: &HostRuntime, request: &LabRequest) -> Result<Report, LabFailure> 
     match request {
         LabRequest::Rows(asked) => report_rows(rt, asked),
         LabRequest::Node(asked) => Report::of(print_of_node(rt, asked)),
-        LabRequest::Occam(asked) => Report::of(print_occam(rt, asked)),
+        LabRequest::Occam(asked) => report_occam(rt, asked),
         LabRequest::Plan => Report::of(print_plan(rt)),
         LabRequest::Replay(most) => Report::of(print_replayed(rt, *most)),
         LabRequest::Draw(drawing) => Report::of(print_drawing(rt, *drawing)),

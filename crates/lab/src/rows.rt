@@ -38,7 +38,12 @@ fn report_files<R: Files + Alloc<A = Global>>(
         }
     }
     let text = text.finish()?;
-    Ok(Report { text, status })
+    let warnings = None;
+    Ok(Report {
+        text,
+        warnings,
+        status,
+    })
 }
 
 // Compares the rows of a file, and tells whether there are rows and all are right.

@@ -52,6 +52,8 @@ pub(crate) enum Argument {
     Pokes,
     Occam,
     Code,
+    Core,
+    Sizes,
     Memory,
 }
 
@@ -193,6 +195,18 @@ impl Argument {
                 "",
                 Form::Flag,
                 "Prints the code in hexadecimal digits, as a boot takes it",
+            ),
+            Argument::Core => argument_words(
+                "core",
+                "",
+                Form::Flag,
+                "Prints what is compiled as occam: without PROCs and abbreviations, each name declared once",
+            ),
+            Argument::Sizes => argument_words(
+                "sizes",
+                "",
+                Form::Flag,
+                "Prints how many bytes the program takes, and how many each PROC",
             ),
             Argument::Memory => argument_words(
                 "memory",

@@ -255,16 +255,32 @@ fn read_occam_request<'a>(matches: &ArgMatches<'a>) -> Result<LabRequest<'a>, Ar
 
 // As what a compiled program is printed: in one form alone.
 fn occam_form<'a>(matches: &ArgMatches<'a>) -> Result<OccamForm<'a>, ArgumentFault> {
-    let pokes = matches.get_strs("pokes");
-    match (matches.get_flag("code"), matches.get_flag("listing"), pokes) {
-        (false, false, None) => Ok(OccamForm::Text),
-        (true, false, None) => Ok(OccamForm::Code),
-        (false, true, None) => Ok(OccamForm::Listing),
-        (false, false, Some([host, user, ..])) => Ok(OccamForm::Pokes {
+    let forms = [
+        ("code", OccamForm::Code),
+        ("listing", OccamForm::Listing),
+        ("core", OccamForm::Core),
+        ("sizes", OccamForm::Sizes),
+    ];
+    let mut asked = pokes_form(matches);
+    for (name, form) in &forms {
+        if matches.get_flag(name) {
+            if asked.is_some() {
+                return Err(ArgumentFault::OccamForms);
+            }
+            asked = Some(*form);
+        }
+    }
+    Ok(asked.unwrap_or(OccamForm::Text))
+}
+
+// The lines of a script, if the words ask for them.
+fn pokes_form<'a>(matches: &ArgMatches<'a>) -> Option<OccamForm<'a>> {
+    match matches.get_strs("pokes") {
+        Some([host, user, ..]) => Some(OccamForm::Pokes {
             host: *host,
             user: *user,
         }),
-        _ => Err(ArgumentFault::OccamForms),
+        _ => None,
     }
 }
 

@@ -47,7 +47,7 @@ pub enum ArgumentFault {
     #[error("--until and --input go with --boot or --program, and --domain with --plan")]
     TraceOptions,
     /// More than one form is asked for.
-    #[error("--code, --listing and --pokes each say how a program is printed: write one of them")]
+    #[error("--code, --listing, --pokes, --core and --sizes each say how a program is printed: write one of them")]
     OccamForms,
     /// `--memory` is no size that a node may have.
     #[error("--memory takes the bytes of a node's memory, a multiple of 4 from 2048 to 65536: --memory 4096")]

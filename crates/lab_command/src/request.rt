@@ -92,6 +92,10 @@ pub enum OccamForm<'a> {
     Code,
     /// As lines of a script.
     Pokes { host: &'a str, user: &'a str },
+    /// As a text of occam without procedures, in which each name is declared once.
+    Core,
+    /// As a table of what it takes.
+    Sizes,
 }
 
 /// What is drawn of a farm.

@@ -83,6 +83,8 @@ impl Subcommand {
                 Argument::Code,
                 Argument::Listing,
                 Argument::Pokes,
+                Argument::Core,
+                Argument::Sizes,
                 Argument::Memory,
             ],
             Subcommand::Rows => &[Argument::Files, Argument::Steps],
@@ -128,7 +130,7 @@ impl Subcommand {
                 "Prints code as text: reads hexadecimal digits, and prints an instruction a line"
             }
             Subcommand::Occam => {
-                "Compiles a program of occam: prints it as a text for assemble, or as code"
+                "Compiles a program of occam: prints it as a text for assemble, as code, or as its core"
             }
             Subcommand::Rows => {
                 "Compares the answers of worked rows with those that their files expect"

@@ -132,7 +132,7 @@ pub fn write_variables(
     }
 }
 
-// Writes a variable, an array with at most so many elements.
+// Writes a variable, an array with at most `most` elements.
 fn write_variable(
     memory: &Memory,
     variable: &ProgramVariable,
@@ -187,7 +187,7 @@ fn write_head(variable: &ProgramVariable, subscript: Option<u32>, text: &mut Tex
     text.push("): ");
 }
 
-// Writes the elements of an array, at most so many.
+// Writes the elements of an array, at most `most` of them.
 fn write_elements(
     memory: &Memory,
     variable: &ProgramVariable,

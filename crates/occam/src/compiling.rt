@@ -71,11 +71,7 @@ pub(crate) fn core_of_text<'a>(
 ) -> Result<CoreProgram<'a>, OccamFault<'a>> {
     let prelude = read_occam(alloc, PRELUDE.as_bytes())?;
     let tree = read_occam(alloc, text)?;
-    let core = core_of(alloc, declarations_of(&prelude), &tree)?;
-    match find_clash(alloc, &core.process)? {
-        Some(clash) => Err(OccamFault::Uses(UseMistake::of(clash, &core))),
-        None => Ok(core),
-    }
+    checked_core(alloc, declarations_of(&prelude), &tree)
 }
 
 /// The program of a core.
@@ -91,8 +87,23 @@ pub(crate) fn program_of(alloc: Global, core: &CoreProgram) -> Result<OccamProgr
     Ok(OccamProgram { emission, words })
 }
 
-// The declarations that a process begins with.
-fn declarations_of<'b, 'a>(process: &'b SourceProcess<'a>) -> &'b [SourceDeclaration<'a>] {
+/// The core of a text after these declarations, in which nothing is wrong.
+pub(crate) fn checked_core<'a>(
+    alloc: Global,
+    prelude: &[SourceDeclaration<'a>],
+    tree: &SourceProcess<'a>,
+) -> Result<CoreProgram<'a>, OccamFault<'a>> {
+    let core = core_of(alloc, prelude, tree)?;
+    match find_clash(alloc, &core.process)? {
+        Some(clash) => Err(OccamFault::Uses(UseMistake::of(clash, &core))),
+        None => Ok(core),
+    }
+}
+
+/// The declarations that a process begins with.
+pub(crate) fn declarations_of<'b, 'a>(
+    process: &'b SourceProcess<'a>,
+) -> &'b [SourceDeclaration<'a>] {
     match process {
         SourceProcess::Declared(declarations, _) => declarations.as_slice(),
         _ => &[],
@@ -147,16 +158,21 @@ pub fn bytes_at(
     requires { origin ≤ 0xffff_0000 }
 {
     let Image { bytes, starts: _ } = image_at(alloc, origin, program)?;
-    let code = u32::try_from(bytes.len()).unwrap_or(u32::MAX);
-    let size = CodeSize {
-        before: origin.saturating_sub(MEMORY_START),
-        code: code.saturating_add(3) / 4 * 4,
-        variables: program.words.saturating_mul(4),
-    };
+    let size = code_size(origin, bytes.len(), program);
     if size.whole() > memory {
         return Err(OccamFault::Memory { size, memory });
     }
     Ok(bytes)
+}
+
+/// How much memory a program takes that has this number of bytes of code, the first at the address `origin`.
+pub(crate) fn code_size(origin: u32, bytes: usize, program: &OccamProgram) -> CodeSize {
+    let code = u32::try_from(bytes).unwrap_or(u32::MAX);
+    CodeSize {
+        before: origin.saturating_sub(MEMORY_START),
+        code: code.saturating_add(3) / 4 * 4,
+        variables: program.words.saturating_mul(4),
+    }
 }
 
 // The line of the last mark at a place or before it.

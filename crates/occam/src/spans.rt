@@ -106,8 +106,8 @@ fn first_word(text: &[u8]) -> &[u8] {
     text.get(..length).unwrap_or(text)
 }
 
-// How many statements the code of a process has, wherever its words are.
-fn statements_of(alloc: Global, p: &CoreProcess) -> Result<usize, AllocError>
+/// How many statements the code of a process has, wherever its words are.
+pub(crate) fn statements_of(alloc: Global, p: &CoreProcess) -> Result<usize, AllocError>
     ensures { IfOk result (λ count. count ≡ length (process_code 0 (record { base = 1; temporary = 1 }) p.now)) }
 {
     let words = FrameWords {

@@ -1,14 +1,13 @@
 -- The processes of a program are apart, and in its room.
-use Rattle.std.proofs.Common.{Box, Global, ◌≡◌, ℕ, zero, suc, ◌+◌, ◌*◌, ◌^◌, ◌<◌, ◌≤◌, ◌⊎◌, inl, inr, List, [], ◌∷◌, Option, Some, None, Bool, true, false, max, refl, sym, ap, ◌∙◌, subst, arith}
+use Rattle.std.proofs.Common.{Box, Global, ◌≡◌, ℕ, zero, suc, ◌+◌, ◌*◌, ◌^◌, ◌<◌, ◌≤◌, inl, inr, List, [], ◌∷◌, Option, Some, None, Bool, true, false, refl, ap, subst, arith}
 use Rattle.std.specs.Prelude.{slice_get, if◌then◌else◌}
-use Rattle.node_memory.specs.Words.{◌⊕◌, ◌⊗◌}
 use Rattle.occam_core.specs.declared.process.CoreProcess.{CoreProcess}
 use Rattle.occam_core.specs.declared.process.CoreProcess.TheVariants.{Line', Sequence', Parallel', Choose', If', While', Repeat'}
 use Rattle.occam_code.specs.declared.frame.FrameWords.{FrameWords}
-use Rattle.occam_code.specs.Words.{as_word, is_parallel, with_guard, guards_temporaries, temporaries_of, process_temporaries, processes_below, words_of}
+use Rattle.occam_code.specs.Words.{is_parallel, process_temporaries, processes_below}
 use Rattle.occam_code.specs.Components.{components, words_below, inside, after_component}
 use Rattle.occam_code.specs.Code.{program_words}
-use Rattle.occam_code.specs.Layout.{PlacedProcess, placed, placed_components, placed_parts, Within, itself, inner, OfTwo, OfStarter, Together, Owns, kept_words, Keeps, IsLaidOut, ProcessesAreApart}
+use Rattle.occam_code.specs.Layout.{PlacedProcess, placed, placed_components, placed_parts, Within, itself, inner, OfTwo, OfStarter, Together, kept_words, ProcessesAreApart}
 
 -- all words of a process have numbers
 record Fits (one : PlacedProcess) : Type 0 where

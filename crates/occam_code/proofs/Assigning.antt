@@ -1,7 +1,6 @@
 -- A variable gets a word, in a store and in the workspace that holds it: for the law of processes.
-use Rattle.std.proofs.Common.{◌≡◌, ℕ, zero, suc, ◌+◌, ◌-◌, ◌*◌, ◌^◌, ◌<◌, ◌≤◌, ◌⊎◌, inl, inr, List, length, refl, sym, ap, ◌∙◌, subst, arith, length-set, Bool, true, false}
-use Rattle.std.specs.Prelude.{◌==◌, slice_index, slice_set}
-use Rattle.std.proofs.lemmas.Bool.Decides.{nat_tests}
+use Rattle.std.proofs.Common.{◌≡◌, ℕ, zero, suc, ◌+◌, ◌-◌, ◌*◌, ◌^◌, ◌<◌, ◌≤◌, ◌⊎◌, inl, inr, List, length, refl, sym, ap, ◌∙◌, subst, arith}
+use Rattle.std.specs.Prelude.{slice_index, slice_set}
 use Rattle.std.proofs.lemmas.Grind.{common_steps}
 use Rattle.node_memory.specs.Words.{◌⊕◌, ◌⊗◌}
 use Rattle.node_memory.specs.Bytes.{first_address, with_word_from}

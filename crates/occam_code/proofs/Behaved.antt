@@ -1,19 +1,20 @@
 -- The law of processes: whole runs, and that a run is nothing else than what the process does.
-use Rattle.std.proofs.Common.{◌≡◌, ℕ, zero, suc, ◌+◌, ◌^◌, ◌<◌, ◌≤◌, List, [], ◌∷◌, length, length-take, Some, None, refl, sym, ap, ◌∙◌, subst, arith, ⊎_elim, take, true, false}
-use Rattle.std.specs.Prelude.{◌==◌, slice_get, slice_index}
+use Rattle.std.proofs.Common.{◌≡◌, ℕ, zero, suc, ◌+◌, ◌^◌, ◌<◌, ◌≤◌, List, [], ◌∷◌, ◌++◌, length, length-take, None, refl, sym, ap, ◌∙◌, subst, arith, ⊎_elim, take, true, false}
+use Rattle.std.specs.Prelude.{◌==◌, slice_get}
 use Rattle.std.proofs.lemmas.Bool.{cases_lt}
 use Rattle.std.proofs.lemmas.Bool.Decides.{nat_tests}
 use Rattle.std.proofs.lemmas.Option.{slice_get_past}
-use Rattle.node_memory.specs.declared.fault.Fault.{Fault}
 use Rattle.node_memory.specs.declared.fault.Fault.TheVariants.{ErrorSet}
 use Rattle.t414_assembly.specs.declared.statement.Statement.{Statement}
 use Rattle.occam_core.specs.declared.process.CoreProcess.{CoreProcess}
-use Rattle.occam_code.specs.Processes.{Exchange, Situation, Course, Ended, Erred, Awaits, Unfinished, does, IsSequential}
+use Rattle.occam_core.specs.Processes.{Situation, Course, Ended, Erred, Awaits, Unfinished, does, IsSequential}
 use Rattle.occam_code.specs.declared.frame.FrameWords.{FrameWords}
-use Rattle.occam_code.specs.Code.{process_code}
-use Rattle.occam_code.specs.Evaluates.{Holds, KeepsOthers}
+use Rattle.occam_code.specs.Instructions as asm
+use Rattle.occam_code.specs.Words.{as_word, processes_below}
+use Rattle.occam_code.specs.Code.{process_code, tables_code, program_start, program_words, program_code}
+use Rattle.occam_code.specs.Evaluates.{Holds}
 use Rattle.occam_code.specs.Alone.{LoneSetting, LoneProcess, LoneStage, Running, Past, Stopped, AtInput, stage_at, next_stage, while_running, stage_after}
-use Rattle.occam_code.specs.Behaves.{IsBegun, IsPastCode, Behaves, CodeBehaves}
+use Rattle.occam_code.specs.Behaves.{IsPastCode, Behaves, ProcessBehaves, CodeBehaves}
 use Rattle.occam_code.proofs.Workspace.{kept_same}
 use Rattle.occam_code.proofs.Operations.{at}
 use Rattle.occam_code.proofs.Lone.{Lies, run, lone}
@@ -236,3 +237,32 @@ behaves p first words program sequential same g size x s begun =
     (subst (λ q. Shows w n last q (does n p x)) start
     (process_runs w p sequential begun.within n first words.temporary registers.a registers.b registers.c s.memory
     x s.breaks lies held begun.free begun.room)))
+
+-- a code before another
+before : (code back : List Statement) (i : ℕ) → i < length code → slice_get (code ++ back) i ≡ slice_get code i
+before [] back i below = absurd (omega (arith, below))
+before (s ∷ code) back zero below = refl
+before (s ∷ code) back (suc i) below = before code back i (omega (arith, below))
+
+-- and after a third
+between : (front code back : List Statement) (i : ℕ) → i < length code
+    → slice_get (front ++ (code ++ back)) (length front + i) ≡ slice_get code i
+between [] code back i below =
+    let e : 0 + i ≡ i = omega arith in ap (λ k. slice_get (code ++ back) k) e ∙ before code back i below
+between (s ∷ front) code back i below =
+    let e : length (s ∷ front) + i ≡ suc (length front + i) = omega arith in
+    ap (λ k. slice_get (s ∷ (front ++ (code ++ back))) k) e ∙ between front code back i below
+
+-- the process of a program behaves
+pub program_behaves : (variables : ℕ) (tables : List ℕ) (p : CoreProcess) (statements : List Statement)
+    → statements ≡ program_code variables tables p → IsSequential p
+    → ProcessBehaves p (length (program_start variables (length tables) p)) (program_words variables) statements
+program_behaves variables tables p statements is sequential =
+    let start = program_start variables (length tables) p in
+    let code = process_code (length start) (program_words variables) p in
+    let back = asm.stopp ∷ tables_code (as_word (processes_below p)) tables in
+    let e : 0 + length start ≡ length start = omega arith in
+    let same : statements ≡ start ++ (code ++ back) =
+    is ∙ ap (λ k. start ++ (process_code k (program_words variables) p ++ back)) e in
+    behaves p (length start) (program_words variables) statements sequential
+    (λ i below. ap (λ list. slice_get list (length start + i)) same ∙ between start code back i below)

@@ -1,9 +1,8 @@
 -- The code of a sequential process does what the process does: for the law of processes.
-use Rattle.std.proofs.Common.{Box, Global, ◌≡◌, ℕ, zero, suc, ◌+◌, ◌-◌, ◌*◌, ◌^◌, ◌<◌, ◌≤◌, List, [], ◌∷◌, ◌++◌, length, length-append, length-set, Option, Some, None, Ok, refl, sym, ap, ◌∙◌, subst, arith, Bool, true, false, max}
-use Rattle.std.specs.Prelude.{◌==◌, slice_get, slice_index, slice_set, if◌then◌else◌}
-use Rattle.std.proofs.lemmas.Bool.Decides.{nat_tests}
+use Rattle.std.proofs.Common.{Box, Global, ◌≡◌, ℕ, zero, suc, ◌+◌, ◌-◌, ◌^◌, ◌<◌, ◌≤◌, List, [], ◌∷◌, ◌++◌, length, length-append, length-set, Option, Some, None, refl, sym, ap, ◌∙◌, subst, arith, Bool, true, false}
+use Rattle.std.specs.Prelude.{◌==◌, slice_index, slice_set, if◌then◌else◌}
 use Rattle.node_memory.specs.Effect.{Gave, Halted, tried}
-use Rattle.node_memory.specs.Words.{◌⊕◌, ◌⊗◌}
+use Rattle.node_memory.specs.Words.{◌⊕◌}
 use Rattle.node_memory.specs.declared.fault.Fault.TheVariants.{ErrorSet}
 use Rattle.link_channels.specs.declared.link.FourLinks.{FourLinks}
 use Rattle.t414_decode.specs.Codes.{operation_of}
@@ -15,13 +14,12 @@ use Rattle.t414_assembly.specs.declared.statement.Statement.{Statement}
 use Rattle.t414_assembly.specs.declared.statement.Statement.TheVariants.{Instruction}
 use Rattle.t414_assembly.specs.Program.{less, plus, operand_of}
 use Rattle.t414_step.specs.declared.cpu.Cpu.{Cpu}
-use Rattle.t414_step.specs.ChannelRows.{CpuEffect}
 use Rattle.t414_step.specs.Rows.{row, direct, slice}
 use Rattle.occam_core.specs.declared.expression.Expression.{Expression}
 use Rattle.occam_core.specs.declared.process.CoreProcess.{CoreProcess}
 use Rattle.occam_core.specs.declared.process.CoreProcess.TheVariants.{Skip, Stop, Assign, Sequence', If', While'}
 use Rattle.occam_core.specs.Values.{value}
-use Rattle.occam_code.specs.Processes.{Exchange, Situation, Course, Ended, Erred, Awaits, Unfinished, then_do, value_then, assigned, turns, does}
+use Rattle.occam_core.specs.Processes.{Situation, Course, Ended, Erred, Awaits, Unfinished, then_do, value_then, assigned, turns, does}
 use Rattle.occam_code.specs.declared.frame.FrameWords.{FrameWords}
 use Rattle.occam_code.specs.Instructions as asm
 use Rattle.occam_code.specs.Words.{temporaries_of, process_temporaries}
@@ -29,9 +27,9 @@ use Rattle.occam_code.specs.Expressions.{expression_code}
 use Rattle.occam_code.specs.Code.{process_code}
 use Rattle.occam_code.specs.Machine.{done_at}
 use Rattle.occam_code.specs.Evaluates.{Holds, KeepsOthers, Comes}
-use Rattle.occam_code.specs.Alone.{LoneSetting, LoneProcess, LoneStage, Running, Past, Stopped, AtInput, after_others, left_after, Manner, ByRow, ThenOthers, manner_of, next_stage, while_running}
+use Rattle.occam_code.specs.Alone.{LoneSetting, LoneProcess, Running, Stopped, AtInput, after_others, left_after, ByRow, ThenOthers, manner_of}
 use Rattle.occam_code.specs.Behaves.{IsWithin, ProcessIsWithin}
-use Rattle.occam_code.proofs.Workspace.{with_word_in, word_put, kept_same, kept_then, holds_store}
+use Rattle.occam_code.proofs.Workspace.{with_word_in, word_put, kept_then}
 use Rattle.occam_code.proofs.Operations.{at}
 use Rattle.occam_code.proofs.Values.{IsWord, value_word}
 use Rattle.occam_code.proofs.Running.{landing, is_zero, word_after, stored, runs}

@@ -1,6 +1,6 @@
 -- The code of an assignment to an element does what the assignment does: for the law of processes.
-use Rattle.std.proofs.Common.{◌≡◌, ℕ, zero, suc, ◌+◌, ◌-◌, ◌*◌, ◌/◌, ◌%◌, ◌^◌, ◌<◌, ◌≤◌, List, [], ◌∷◌, ◌++◌, length, length-append, Ok, refl, sym, ap, ◌∙◌, subst, arith, Bool, true, false, not, max, nat_le, nat_lt}
-use Rattle.std.specs.Prelude.{◌==◌, slice_get, slice_index, slice_set, if◌then◌else◌}
+use Rattle.std.proofs.Common.{◌≡◌, ℕ, ◌+◌, ◌-◌, ◌*◌, ◌/◌, ◌%◌, ◌^◌, ◌<◌, ◌≤◌, List, [], ◌∷◌, ◌++◌, length, length-append, Ok, refl, sym, ap, ◌∙◌, subst, arith, Bool, true, false, not, nat_le, nat_lt}
+use Rattle.std.specs.Prelude.{slice_set, if◌then◌else◌}
 use Rattle.node_memory.specs.Bytes.{first_address, with_byte, with_word}
 use Rattle.node_memory.specs.Effect.{Gave, tried}
 use Rattle.node_memory.specs.Words.{◌⊕◌, ◌⊗◌}
@@ -15,13 +15,12 @@ use Rattle.occam_core.specs.declared.expression.ElementKind.TheVariants as kind
 use Rattle.occam_core.specs.declared.expression.Expression.{Expression}
 use Rattle.occam_core.specs.declared.process.CoreProcess.TheVariants.{AssignElement}
 use Rattle.occam_core.specs.Values.{value}
-use Rattle.occam_code.specs.Processes.{Situation, Course, Ended, Erred, value_then, with_element, does}
+use Rattle.occam_core.specs.Processes.{Situation, Ended, Erred, value_then, with_element, does}
 use Rattle.occam_code.specs.Instructions as asm
-use Rattle.occam_code.specs.Words.{temporaries_of}
 use Rattle.occam_code.specs.Expressions.{subscript_code, address_code, expression_code}
-use Rattle.occam_code.specs.Code.{store_code, process_code}
-use Rattle.occam_code.specs.Evaluates.{array_words, word_in, KeepsOthers}
-use Rattle.occam_code.specs.Behaves.{IsWithin, ProcessIsWithin}
+use Rattle.occam_code.specs.Code.{store_code}
+use Rattle.occam_code.specs.Evaluates.{array_words, word_in}
+use Rattle.occam_code.specs.Behaves.{ProcessIsWithin}
 use Rattle.occam_code.proofs.Workspace.{with_word_in, word_put, byte_address, element_address, word_kept, stored_word}
 use Rattle.occam_code.proofs.Operations.{at, not_below}
 use Rattle.occam_code.proofs.Values.{is_less}
@@ -33,12 +32,12 @@ use Rattle.occam_code.proofs.Repeating.{points, checked}
 use Rattle.occam_code.proofs.Speaking.{loads_word, constants, held_temporary}
 
 -- a choice by a test, and by its opposite
-other_way : {A : Type 0} (b : Bool) (x y : A) → (if not b then y else x) ≡ (if b then x else y)
+pub other_way : {A : Type 0} (b : Bool) (x y : A) → (if not b then y else x) ≡ (if b then x else y)
 other_way true x y = refl
 other_way false x y = refl
 
 -- what holds where a test's opposite fails
-was_true : (b : Bool) → not b ≡ false → b ≡ true
+pub was_true : (b : Bool) → not b ≡ false → b ≡ true
 was_true true is = refl
 was_true false is = sym is
 
@@ -46,7 +45,7 @@ module _ (ground : Ground) where
   open ground use {setting as g, program, registers as s, links as ls, base, size, count, own}
 
   -- wsub
-  subscripts : (k a b c : ℕ) (m : List ℕ) (now : Situation) (breaks : ℕ) (rest : List Statement)
+  pub subscripts : (k a b c : ℕ) (m : List ℕ) (now : Situation) (breaks : ℕ) (rest : List Statement)
       → Lies g program k (asm.wsub ∷ rest)
       → Proceeds g program (st ground k a b c m now breaks) (st ground (k + 1) (a ⊕ 4 ⊗ b) c c m now breaks)
   unfolding direct row operation_of
@@ -71,7 +70,7 @@ module _ (ground : Ground) where
       (ap (λ q. tried q ls m (λ n. Gave (at s (g.address (k + 1)) c b c) ls n)) put)
 
   -- bsub
-  subscripts_byte : (k a b c : ℕ) (m : List ℕ) (now : Situation) (breaks : ℕ) (rest : List Statement)
+  pub subscripts_byte : (k a b c : ℕ) (m : List ℕ) (now : Situation) (breaks : ℕ) (rest : List Statement)
       → Lies g program k (asm.bsub ∷ rest)
       → Proceeds g program (st ground k a b c m now breaks) (st ground (k + 1) (a ⊕ b) c c m now breaks)
   unfolding direct row operation_of

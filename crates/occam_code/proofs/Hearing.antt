@@ -1,9 +1,8 @@
 -- The code of an input by a link does what the input does: for the law of processes.
-use Rattle.std.proofs.Common.{◌≡◌, ℕ, zero, suc, ◌+◌, ◌-◌, ◌*◌, ◌^◌, ◌<◌, ◌≤◌, List, [], ◌∷◌, ◌++◌, length, length-append, Ok, take, drop, refl, sym, ap, ◌∙◌, subst, arith, Bool, true, false, nat_le}
-use Rattle.std.specs.Prelude.{◌==◌, slice_get, slice_index, if◌then◌else◌}
+use Rattle.std.proofs.Common.{◌≡◌, ℕ, ◌+◌, ◌-◌, ◌*◌, ◌<◌, ◌≤◌, List, [], ◌∷◌, ◌++◌, length, length-append, Ok, take, drop, refl, sym, ap, ◌∙◌, subst, arith, Bool, true, false, nat_le}
+use Rattle.std.specs.Prelude.{if◌then◌else◌}
 use Rattle.node_memory.specs.Bytes.{first_address, with_word_from}
 use Rattle.node_memory.specs.Words.{◌⊕◌, ◌⊗◌}
-use Rattle.link_channels.specs.Kinds.{kind_of}
 use Rattle.t414_decode.specs.Codes.{operation_of}
 use Rattle.t414_decode.specs.declared.instruction.Function.TheVariants.{Operate}
 use Rattle.t414_assembly.specs.declared.statement.Operand.TheVariants as operand
@@ -12,13 +11,11 @@ use Rattle.occam_core.specs.declared.channel.CoreChannel.TheVariants.{Link}
 use Rattle.occam_core.specs.declared.channel.MessageKind.{MessageKind}
 use Rattle.occam_core.specs.declared.channel.MessageKind.TheVariants as message
 use Rattle.occam_core.specs.declared.process.CoreProcess.TheVariants.{Input}
-use Rattle.occam_code.specs.Processes.{Exchange, Heard, Situation, Course, Ended, Awaits, assigned, heard, bytes_in, value_heard, does}
-use Rattle.occam_code.specs.declared.frame.FrameWords.{FrameWords}
+use Rattle.occam_core.specs.Processes.{Heard, Situation, Ended, Awaits, assigned, heard, bytes_in, value_heard, does}
 use Rattle.occam_code.specs.Instructions as asm
 use Rattle.occam_code.specs.Guards.{channel_code}
-use Rattle.occam_code.specs.Code.{process_code}
 use Rattle.occam_code.specs.Machine.{done_at}
-use Rattle.occam_code.specs.Alone.{LoneProcess, LoneStage, Running, AtInput, after_others, and_then, with_bytes, channel_at, hear, left_after, Hears, next_stage, while_running, stage_after}
+use Rattle.occam_code.specs.Alone.{LoneProcess, Running, AtInput, after_others, and_then, with_bytes, hear, left_after, Hears, next_stage, while_running, stage_after}
 use Rattle.occam_code.proofs.Workspace.{array_address, with_word_in}
 use Rattle.occam_code.proofs.Lone.{Lies, lies_front, lies_back, run, Advances, Proceeds, waits, advances_on, some, one_on, staged}
 use Rattle.occam_code.proofs.MessageBytes.{channel_word, input_of, heard_byte, heard_word, rest_bytes, value_fits}
@@ -30,13 +27,15 @@ module _ (ground : Ground) where
   open ground use {setting as g, program, registers as s, links as ls, base, size, count}
 
   -- a wait after some statements
-  listens_on : (p after : LoneProcess) → Advances g program p after → next_stage g program after ≡ AtInput after.talk
+  pub listens_on : (p after : LoneProcess) → Advances g program p after → next_stage g program after ≡ AtInput
+      after.talk
       → (j : ℕ) × (run g program j p ≡ AtInput after.talk)
   listens_on p after adv is =
       let a = adv.by 1 in (a.0, a.2 ∙ ap (λ h. while_running h (stage_after g program 0)) is)
 
   -- what in does, if enough bytes come, or not
-  input_stage : (enough : Bool) (n c pointer k : ℕ) (m : List ℕ) (now : Situation) (breaks : ℕ) (rest : List Statement)
+  pub input_stage : (enough : Bool) (n c pointer k : ℕ) (m : List ℕ) (now : Situation) (breaks : ℕ)
+      (rest : List Statement)
       → 4 ≤ c → c < 8 → Lies g program k (asm.in ∷ rest) → nat_le n (length now.coming) ≡ enough
       → next_stage g program (st ground k n (channel_word c) pointer m now breaks)
       ≡ (if enough

@@ -16,5 +16,7 @@ pub mod Speaking
 pub mod Hearing
 pub mod StoreBytes
 pub mod Elements
+pub mod ArrayMessages
+pub mod Copying
 pub mod Sequential
 pub mod Behaved

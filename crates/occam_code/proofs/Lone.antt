@@ -1,5 +1,5 @@
 -- A process by itself, statement by statement; and instructions that are done by their rows: for the law of processes.
-use Rattle.std.proofs.Common.{◌≡◌, ℕ, zero, suc, ◌+◌, ◌<◌, ◌≤◌, List, [], ◌∷◌, ◌++◌, length, Option, Some, None, refl, sym, ap, ◌∙◌, subst, arith}
+use Rattle.std.proofs.Common.{◌≡◌, ℕ, zero, suc, ◌+◌, ◌<◌, ◌≤◌, List, [], ◌∷◌, ◌++◌, length, Some, refl, ap, ◌∙◌, subst, arith}
 use Rattle.std.specs.Prelude.{slice_get}
 use Rattle.node_memory.specs.Effect.{Gave, Halted}
 use Rattle.node_memory.specs.declared.fault.Fault.{Fault}
@@ -12,9 +12,9 @@ use Rattle.t414_assembly.specs.declared.statement.Statement.TheVariants.{Instruc
 use Rattle.t414_assembly.specs.Program.{operand_of}
 use Rattle.t414_step.specs.declared.cpu.Cpu.{Cpu}
 use Rattle.t414_step.specs.ChannelRows.{CpuEffect}
-use Rattle.occam_code.specs.Processes.{Exchange, Situation, Course, Ended, Erred, Awaits, Unfinished}
+use Rattle.occam_core.specs.Processes.{Situation}
 use Rattle.occam_code.specs.Machine.{done_at, Does, Leads, Falls}
-use Rattle.occam_code.specs.Alone.{LoneSetting, LoneProcess, LoneStage, Running, Past, Stopped, AtInput, left_after, Manner, ByRow, manner_of, stage_by, stage_at, next_stage, while_running, stage_after}
+use Rattle.occam_code.specs.Alone.{LoneSetting, LoneProcess, LoneStage, Running, Stopped, left_after, Manner, ByRow, manner_of, stage_by, stage_at, next_stage, while_running, stage_after}
 use Rattle.occam_code.proofs.Stepping.{HasAt, has_all}
 use Rattle.occam_code.proofs.Quiet.{IsByRow, AreByRow}
 

@@ -1,10 +1,10 @@
 -- The bytes of a message are read from memory and written to it: for the law of processes.
-use Rattle.std.proofs.Common.{◌≡◌, ℕ, zero, suc, ◌+◌, ◌-◌, ◌*◌, ◌/◌, ◌%◌, ◌^◌, ◌<◌, ◌≤◌, List, [], ◌∷◌, length, Ok, Err, take, drop, refl, sym, ap, ◌∙◌, subst, arith, length-set, cond, Bool, true, false, nat_le}
-use Rattle.std.specs.Prelude.{◌==◌, slice_index, slice_set}
+use Rattle.std.proofs.Common.{◌≡◌, ℕ, zero, suc, ◌+◌, ◌-◌, ◌*◌, ◌/◌, ◌%◌, ◌^◌, ◌<◌, ◌≤◌, List, [], ◌∷◌, length, Ok, Err, take, drop, refl, ap, ◌∙◌, subst, arith, length-set, cond, true, nat_le}
+use Rattle.std.specs.Prelude.{slice_index, slice_set}
 use Rattle.std.proofs.lemmas.Bool.Decides.{nat_tests}
 use Rattle.std.proofs.lemmas.Grind.{common_steps}
 use Rattle.std.proofs.lemmas.List.{set-set}
-use Rattle.node_memory.specs.Bytes.{first_address, is_inside, byte_at, with_byte, word_from, with_word_from, result_and_then}
+use Rattle.node_memory.specs.Bytes.{first_address, is_inside, byte_at, with_byte, with_word_from, result_and_then}
 use Rattle.node_memory.specs.Words.{◌⊕◌, ◌⊗◌}
 use Rattle.node_memory.specs.declared.fault.Fault.TheVariants.{OutsideMemory}
 use Rattle.link_channels.specs.Kinds.{kind_of}
@@ -13,7 +13,7 @@ use Rattle.link_channels.specs.declared.number.LinkNumber.{LinkNumber}
 use Rattle.link_channels.specs.declared.number.LinkNumber.TheVariants.{Zero, One, Two, Three}
 use Rattle.occam_core.specs.declared.channel.MessageKind.{MessageKind}
 use Rattle.occam_core.specs.declared.channel.MessageKind.TheVariants as message
-use Rattle.occam_code.specs.Processes.{bytes_in, value_heard, bytes_said}
+use Rattle.occam_core.specs.Processes.{bytes_in, value_heard, bytes_said}
 use Rattle.occam_code.specs.Alone.{with_bytes, bytes_at, channel_at}
 
 -- the word of a link's channel of this number

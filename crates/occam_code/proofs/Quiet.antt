@@ -1,12 +1,8 @@
 -- The statements of an expression's code are done by their rows alone, whoever else is there: for the law of processes.
-use Rattle.std.proofs.Common.{◌≡◌, ℕ, zero, suc, ◌+◌, List, [], ◌∷◌, ◌++◌, length, Some, refl, sym, ap, ◌∙◌, arith, Bool, true, false}
-use Rattle.std.specs.Prelude.{◌==◌, slice_get, if◌then◌else◌}
-use Rattle.node_memory.specs.Words.{◌⊕◌}
+use Rattle.std.proofs.Common.{◌≡◌, ℕ, ◌+◌, List, [], ◌∷◌, ◌++◌, length, refl, Bool, true, false}
 use Rattle.t414_decode.specs.Codes.{operation_of}
-use Rattle.t414_decode.specs.declared.instruction.Function.{Function}
-use Rattle.t414_assembly.specs.declared.statement.Operand.{Operand}
 use Rattle.t414_assembly.specs.declared.statement.Statement.{Statement}
-use Rattle.t414_assembly.specs.declared.statement.Statement.TheVariants.{Instruction, Space}
+use Rattle.t414_assembly.specs.declared.statement.Statement.TheVariants.{Instruction}
 use Rattle.t414_assembly.specs.Program.{operand_of}
 use Rattle.occam_core.specs.declared.expression.ElementKind.{ElementKind}
 use Rattle.occam_core.specs.declared.expression.ElementKind.TheVariants as kind

@@ -1,7 +1,6 @@
 -- The code of a loop with an index does what the loop does: for the law of processes.
-use Rattle.std.proofs.Common.{Box, Global, ◌≡◌, ℕ, zero, suc, ◌+◌, ◌-◌, ◌*◌, ◌^◌, ◌<◌, ◌≤◌, inr, List, [], ◌∷◌, ◌++◌, length, length-append, Some, Ok, refl, sym, ap, ◌∙◌, subst, arith, Bool, true, false, max, nat_le, pos}
-use Rattle.std.specs.Prelude.{◌==◌, slice_get, slice_index, if◌then◌else◌, int_lt}
-use Rattle.std.proofs.lemmas.Bool.Decides.{nat_tests}
+use Rattle.std.proofs.Common.{Box, Global, ◌≡◌, ℕ, zero, suc, ◌+◌, ◌-◌, ◌^◌, ◌<◌, ◌≤◌, inr, List, [], ◌∷◌, ◌++◌, length, length-append, Ok, refl, sym, ap, ◌∙◌, subst, arith, Bool, true, false, nat_le, pos}
+use Rattle.std.specs.Prelude.{◌==◌, slice_index, if◌then◌else◌, int_lt}
 use Rattle.node_memory.specs.Bytes.{word_at, with_word}
 use Rattle.node_memory.specs.Effect.{Gave, Halted, tried}
 use Rattle.node_memory.specs.Words.{◌⊕◌, ◌⊖◌, ◌⊗◌, signed}
@@ -19,18 +18,18 @@ use Rattle.occam_core.specs.declared.expression.Expression.{Expression}
 use Rattle.occam_core.specs.declared.process.CoreProcess.{CoreProcess}
 use Rattle.occam_core.specs.declared.process.CoreProcess.TheVariants.{Repeat'}
 use Rattle.occam_core.specs.Values.{value}
-use Rattle.occam_code.specs.Processes.{Situation, Course, Ended, Erred, then_do, value_then, assigned, turns_left, turn_over, rounds, does}
+use Rattle.occam_core.specs.Processes.{Situation, Course, Ended, Erred, value_then, assigned, turns_left, turn_over, rounds, does}
 use Rattle.occam_code.specs.Instructions as asm
-use Rattle.occam_code.specs.Words.{temporaries_of, process_temporaries}
+use Rattle.occam_code.specs.Words.{process_temporaries}
 use Rattle.occam_code.specs.Expressions.{expression_code}
 use Rattle.occam_code.specs.Code.{count_code, loop_end_code, process_code}
 use Rattle.occam_code.specs.Machine.{done_at}
-use Rattle.occam_code.specs.Alone.{LoneProcess, Running, after_others, left_after, ByRow, ThenOthers}
-use Rattle.occam_code.specs.Behaves.{IsWithin, ProcessIsWithin}
+use Rattle.occam_code.specs.Alone.{Running, after_others, left_after, ByRow, ThenOthers}
+use Rattle.occam_code.specs.Behaves.{ProcessIsWithin}
 use Rattle.occam_code.proofs.Workspace.{word_is, with_word_in, word_put}
 use Rattle.occam_code.proofs.Operations.{at}
 use Rattle.occam_code.proofs.Running.{is_zero, word_after}
-use Rattle.occam_code.proofs.Lone.{Lies, lies_front, lies_back, Advances, Proceeds, waits, some, one_on, staged, lone, stops_on}
+use Rattle.occam_code.proofs.Lone.{Lies, lies_front, lies_back, Proceeds, waits, some, one_on, staged, stops_on}
 use Rattle.occam_code.proofs.Assigning.{set_same, set_other, next_address}
 use Rattle.occam_code.proofs.Behaving.{Ground, from, st, Held, Shows, later, later_more, fewer, then_on, ends_as, ended, rows, jumps, passes, evaluates, Runs, held_assigned, assigns, slice_goes_on, if_false}
 

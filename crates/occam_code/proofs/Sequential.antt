@@ -1,10 +1,12 @@
 -- The code of each sequential process does what the process does: for the law of processes.
-use Rattle.std.proofs.Common.{ℕ, ◌≤◌, arith}
+use Rattle.std.proofs.Common.{arith}
 use Rattle.occam_core.specs.declared.channel.CoreChannel.TheVariants.{Link}
 use Rattle.occam_core.specs.declared.process.CoreProcess.{CoreProcess}
-use Rattle.occam_core.specs.declared.process.CoreProcess.TheVariants.{Skip, Stop, Line', Assign, AssignElement, Input, Output, Sequence', If', While', Repeat'}
-use Rattle.occam_code.specs.Processes.{IsSequential}
+use Rattle.occam_core.specs.declared.process.CoreProcess.TheVariants.{Skip, Stop, Line', Assign, AssignElement, Copy, Input, InputElement, InputArray, Output, OutputArray, Sequence', If', While', Repeat'}
+use Rattle.occam_core.specs.Processes.{IsSequential}
 use Rattle.occam_code.specs.Behaves.{ProcessIsWithin}
+use Rattle.occam_code.proofs.ArrayMessages.{input_element_runs, input_array_runs, output_array_runs}
+use Rattle.occam_code.proofs.Copying.{copy_runs}
 use Rattle.occam_code.proofs.Elements.{assign_element_runs}
 use Rattle.occam_code.proofs.Hearing.{input_runs}
 use Rattle.occam_code.proofs.Speaking.{output_runs}
@@ -29,7 +31,13 @@ module _ (ground : Ground) where
       b c m x r
       (omega arith) lies held free room
   process_runs (AssignElement array i e) sequential fit = assign_element_runs ground array i e fit
+  process_runs (Copy to from) sequential fit = copy_runs ground to from sequential fit.0 fit.1
   process_runs (Input (Link c) kind v) sequential fit = input_runs ground c kind v sequential.0 sequential.1 fit
+  process_runs (InputElement (Link c) array e) sequential fit =
+      input_element_runs ground c array e sequential.0 sequential.1 fit.0 fit.1
+  process_runs (InputArray (Link c) array) sequential fit =
+      input_array_runs ground c array sequential.0 sequential.1 fit
+  process_runs (OutputArray (Link c) array) sequential fit = output_array_runs ground c array sequential fit
   process_runs (Output (Link c) kind e) sequential fit = output_runs ground c kind e sequential fit
   process_runs (Repeat' v e times box p) sequential fit =
       repeat_runs ground v e times box p fit (process_runs p sequential fit.3)

@@ -1,12 +1,9 @@
 -- The code of an output by a link says what the output says: for the law of processes.
-use Rattle.std.proofs.Common.{Box, Global, ◌≡◌, ℕ, zero, suc, ◌+◌, ◌-◌, ◌*◌, ◌^◌, ◌<◌, ◌≤◌, inl, List, [], ◌∷◌, ◌++◌, length, length-append, Some, Ok, refl, sym, ap, ◌∙◌, subst, arith, Bool, true, false, max}
-use Rattle.std.specs.Prelude.{◌==◌, slice_get, slice_index, if◌then◌else◌}
-use Rattle.std.proofs.lemmas.Bool.Decides.{nat_tests}
-use Rattle.node_memory.specs.Bytes.{first_address, word_at, with_word, with_word_from}
+use Rattle.std.proofs.Common.{◌≡◌, ℕ, ◌+◌, ◌-◌, ◌*◌, ◌<◌, ◌≤◌, inl, List, [], ◌∷◌, ◌++◌, length, length-append, Some, Ok, refl, sym, ap, ◌∙◌, subst, arith, Bool, true, false, max}
+use Rattle.std.specs.Prelude.{◌==◌, slice_index, if◌then◌else◌}
+use Rattle.node_memory.specs.Bytes.{first_address, with_word, with_word_from}
 use Rattle.node_memory.specs.Effect.{Gave, tried}
 use Rattle.node_memory.specs.Words.{◌⊕◌, ◌⊗◌}
-use Rattle.link_channels.specs.declared.channel.Channel.{Channel}
-use Rattle.link_channels.specs.declared.channel.Channel.TheVariants.{LinkOutput}
 use Rattle.link_channels.specs.Kinds.{kind_of}
 use Rattle.t414_decode.specs.Codes.{operation_of}
 use Rattle.t414_decode.specs.declared.instruction.Function.TheVariants.{LoadConstant, LoadLocal, LoadNonLocalPointer, Operate}
@@ -20,25 +17,24 @@ use Rattle.occam_core.specs.declared.expression.Expression.{Expression}
 use Rattle.occam_core.specs.declared.expression.Expression.TheVariants.{Number, Variable, Element', One', Two', And', Or', Below'}
 use Rattle.occam_core.specs.declared.process.CoreProcess.TheVariants.{Output}
 use Rattle.occam_core.specs.Values.{value}
-use Rattle.occam_code.specs.Processes.{Exchange, Said, Situation, Course, Ended, value_then, bytes_in, bytes_said, does}
-use Rattle.occam_code.specs.declared.frame.FrameWords.{FrameWords}
+use Rattle.occam_core.specs.Processes.{Said, Situation, Ended, value_then, bytes_in, bytes_said}
 use Rattle.occam_code.specs.Instructions as asm
 use Rattle.occam_code.specs.Words.{is_leaf, temporaries_of}
 use Rattle.occam_code.specs.Expressions.{expression_code}
 use Rattle.occam_code.specs.Guards.{channel_code}
-use Rattle.occam_code.specs.Code.{output_operation, send_code, process_code}
+use Rattle.occam_code.specs.Code.{output_operation, send_code}
 use Rattle.occam_code.specs.Machine.{done_at}
-use Rattle.occam_code.specs.Evaluates.{word_in, Holds}
-use Rattle.occam_code.specs.Alone.{LoneProcess, LoneStage, Running, after_others, and_then, bytes_at, channel_at, say, left_after, Manner, SaysValue, manner_of, next_stage}
+use Rattle.occam_code.specs.Evaluates.{word_in}
+use Rattle.occam_code.specs.Alone.{Running, after_others, and_then, bytes_at, channel_at, say, left_after, SaysValue, manner_of}
 use Rattle.occam_code.specs.Behaves.{IsWithin}
 use Rattle.occam_code.proofs.Workspace.{word_is, with_word_in, word_put, length-with, bytes_with, stored_word, holds_store}
 use Rattle.occam_code.proofs.Operations.{at}
 use Rattle.occam_code.proofs.Running.{is_zero}
-use Rattle.occam_code.proofs.Lone.{Lies, lies_front, lies_back, Advances, Proceeds, waits, advances_on, some, one_on, staged}
+use Rattle.occam_code.proofs.Lone.{Lies, lies_front, lies_back, Advances, Proceeds, advances_on, some, one_on, staged}
 use Rattle.occam_code.proofs.Assigning.{other_word, kept_word}
-use Rattle.occam_code.proofs.MessageBytes.{channel_word, IsOutputOf, output_of, said_bytes}
-use Rattle.occam_code.proofs.Behaving.{Ground, from, st, Held, Shows, later, ends_as, ended, rows, stores, held_on, evaluates, Runs}
-use Rattle.occam_code.proofs.Repeating.{variable_is, word_of, least_int}
+use Rattle.occam_code.proofs.MessageBytes.{channel_word, output_of, said_bytes}
+use Rattle.occam_code.proofs.Behaving.{Ground, from, st, Held, Shows, ends_as, ended, rows, stores, evaluates, Runs}
+use Rattle.occam_code.proofs.Repeating.{word_of, least_int}
 
 -- the address of word 0
 own_word : (w size long : ℕ) → first_address ≤ w → w - first_address + 4 * size ≤ long → long ≤ 65536 → w ⊕ 4 ⊗ 0 ≡ w

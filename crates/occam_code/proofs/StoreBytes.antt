@@ -1,12 +1,14 @@
 -- A byte of a store is written, in the workspace that holds it: for the law of processes.
-use Rattle.std.proofs.Common.{◌≡◌, ℕ, zero, suc, ◌+◌, ◌-◌, ◌*◌, ◌/◌, ◌%◌, ◌^◌, ◌<◌, ◌≤◌, ◌⊎◌, inl, inr, List, length, refl, sym, ap, ◌∙◌, subst, arith, length-set}
+use Rattle.std.proofs.Common.{◌≡◌, ℕ, zero, suc, ◌+◌, ◌-◌, ◌*◌, ◌/◌, ◌%◌, ◌^◌, ◌<◌, ◌≤◌, ◌⊎◌, inl, inr, List, [], ◌∷◌, length, take, Ok, refl, sym, ap, ◌∙◌, subst, arith}
 use Rattle.std.specs.Prelude.{slice_index, slice_set}
-use Rattle.std.proofs.lemmas.Grind.{common_steps}
-use Rattle.node_memory.specs.Bytes.{first_address, word_from}
-use Rattle.occam_code.specs.Processes.{Situation, with_byte_of, with_byte_in}
-use Rattle.occam_code.specs.Evaluates.{word_in, Holds, KeepsOthers}
-use Rattle.occam_code.proofs.Workspace.{set_bytes}
+use Rattle.node_memory.specs.Bytes.{first_address, byte_at, with_byte, word_from, result_and_then}
+use Rattle.node_memory.specs.Words.{◌⊕◌}
+use Rattle.occam_core.specs.Processes.{Situation, byte_in, with_byte_of, with_byte_in, with_bytes_in, bytes_of_store}
+use Rattle.occam_code.specs.Evaluates.{word_in, Holds}
+use Rattle.occam_code.specs.Alone.{with_bytes, bytes_at}
+use Rattle.occam_code.proofs.Workspace.{set_bytes, byte_is}
 use Rattle.occam_code.proofs.Assigning.{set_same, set_other, apart_or}
+use Rattle.occam_code.proofs.MessageBytes.{byte_put}
 use Rattle.occam_code.proofs.Behaving.{Ground, Held, set_long}
 
 -- another byte than the one that was written
@@ -136,3 +138,69 @@ held_byte ground i b m now held within room fits =
       long = set_long now.store (i / 4) word ∙ held.long;
       bytes = held.bytes;
     }
+
+-- bytes of the variables are written
+pub record IsFilled (ground : Ground) (i : ℕ) (bytes m : List ℕ) (now : Situation) : Type 0 where
+  pub memory : List ℕ
+  pub put : with_bytes m (ground.registers.workspace + 4 * ground.base + i) bytes ≡ Ok memory
+  pub held : Held ground memory (record now { store = with_bytes_in now.store i bytes })
+
+-- they are
+pub filled : (ground : Ground) (bytes : List ℕ) (i : ℕ) (m : List ℕ) (now : Situation) → Held ground m now
+    → i + length bytes ≤ 4 * ground.count → ground.count + ground.base ≤ ground.size
+    → ((j : ℕ) → slice_index bytes j < 2 ^ 8) → IsFilled ground i bytes m now
+filled ground [] i m now held within room small = record { memory = m; put = refl; held = held }
+filled ground (byte ∷ bytes) i m now held within room small =
+    let h = held.holds in
+    let w = ground.registers.workspace in
+    let a = w + 4 * ground.base + i in
+    let next = slice_set m (w - first_address + 4 * ground.base + i) byte in
+    let below : i < 4 * ground.count = omega (arith, within) in
+    let one : with_byte m a byte ≡ Ok next =
+    byte_put m a byte (omega (arith, h.least)) (omega (arith, h.least, h.most, below, room))
+    ∙ ap (λ q. Ok (slice_set m q byte)) (omega (arith, h.least)) in
+    let rest = filled ground bytes (i + 1) next (record now { store = with_byte_in now.store i byte })
+    (held_byte ground i byte m now held below room (small 0)) (omega (arith, within)) room (λ j. small (suc j)) in
+    let after : a ⊕ 1 ≡ w + 4 * ground.base + (i + 1) =
+    omega (arith, h.least, h.most, h.memory.most, below, room) in
+    record {
+      memory = rest.memory;
+      put = ap (λ q. result_and_then q (λ n. with_bytes n (a ⊕ 1) bytes)) one
+          ∙ ap (λ q. with_bytes next q bytes) after ∙ rest.put;
+      held = rest.held;
+    }
+
+-- bytes of the variables are read
+pub bytes_found : (ground : Ground) (count i : ℕ) (m : List ℕ) (now : Situation) → Held ground m now
+    → i + count ≤ 4 * ground.count → ground.count + ground.base ≤ ground.size
+    → bytes_at count m (ground.registers.workspace + 4 * ground.base + i) ≡ Ok (bytes_of_store count now.store i)
+bytes_found ground zero i m now held within room = refl
+bytes_found ground (suc count) i m now held within room =
+    let h = held.holds in
+    let w = ground.registers.workspace in
+    let a = w + 4 * ground.base + i in
+    let under : i / 4 < ground.count = omega (arith, within) in
+    let one : byte_at m a ≡ Ok (byte_in now.store i) =
+    ap (λ q. byte_at m q) (omega arith)
+    ∙ byte_is w ground.base ground.size ground.count 0 i now.store m h (omega (arith, under, room))
+    ∙ ap (λ q. Ok (word_in w m q / 2 ^ (8 * (i % 4)) % 2 ^ 8)) (omega arith)
+    ∙ ap (λ q. Ok (q / 2 ^ (8 * (i % 4)) % 2 ^ 8)) (h.variables (i / 4) under) in
+    let after : a ⊕ 1 ≡ w + 4 * ground.base + (i + 1) =
+    omega (arith, h.least, h.most, h.memory.most, under, room) in
+    let rest = bytes_found ground count (i + 1) m now held (omega (arith, within)) room in
+    ap (λ q. result_and_then q
+    (λ byte. result_and_then (bytes_at count m (a ⊕ 1)) (λ bytes. Ok (byte ∷ bytes)))) one
+    ∙ ap (λ q. result_and_then (bytes_at count m q) (λ bytes. Ok (byte_in now.store i ∷ bytes))) after
+    ∙ ap (λ q. result_and_then q (λ bytes. Ok (byte_in now.store i ∷ bytes))) rest
+
+-- no byte is too large
+nothing_small : (bytes : List ℕ) → bytes ≡ [] → (j : ℕ) → slice_index bytes j < 2 ^ 8
+nothing_small bytes none j = subst (λ l. slice_index l j < 2 ^ 8) (sym none) (omega arith)
+
+-- the first of some bytes
+pub first_bytes : (count : ℕ) (coming : List ℕ) → ((j : ℕ) → slice_index coming j < 2 ^ 8)
+    → (j : ℕ) → slice_index (take count coming) j < 2 ^ 8
+first_bytes zero coming small j = nothing_small (take zero coming) refl j
+first_bytes (suc count) [] small j = small j
+first_bytes (suc count) (byte ∷ coming) small zero = small 0
+first_bytes (suc count) (byte ∷ coming) small (suc j) = first_bytes count coming (λ i. small (suc i)) j

@@ -3,7 +3,7 @@
 -- be given to others: A, B and C have any values then. The bytes of instructions are not counted, so no row ends a
 -- slice. Which words below its workspace a process that waits uses is left out.
 -- Instruction set handbook, in, out, outbyte, outword.
-use Rattle.std.specs.Prelude.{ℕ, zero, suc, ◌+◌, ◌-◌, ◌/◌, List, [], ◌∷◌, ◌++◌, Option, Some, None, Result, Ok, Err, length, take, drop, nat_le, if◌then◌else◌, slice_get}
+use Rattle.std.specs.Prelude.{ℕ, zero, suc, ◌+◌, ◌-◌, ◌/◌, List, [], ◌∷◌, ◌++◌, Option, Some, Result, Ok, Err, length, take, drop, nat_le, if◌then◌else◌, slice_get}
 use Rattle.node_memory.specs.Bytes.{first_address, byte_at, with_byte, with_word, result_and_then}
 use Rattle.node_memory.specs.Effect.{Gave, Halted}
 use Rattle.node_memory.specs.Words.{◌⊕◌}
@@ -19,13 +19,12 @@ use Rattle.t414_decode.specs.declared.instruction.Function.TheVariants.{Jump, Op
 use Rattle.t414_decode.specs.declared.instruction.Operation.{Operation}
 use Rattle.t414_decode.specs.declared.instruction.Operation.TheVariants.{Plain, Channel as by_channel}
 use Rattle.t414_decode.specs.declared.instruction.PlainOperation.TheVariants.{LoopEnd}
-use Rattle.t414_assembly.specs.declared.statement.Operand.{Operand}
 use Rattle.t414_assembly.specs.declared.statement.Statement.{Statement}
 use Rattle.t414_assembly.specs.declared.statement.Statement.TheVariants.{Instruction}
 use Rattle.t414_assembly.specs.Program.{operand_of}
 use Rattle.t414_step.specs.declared.cpu.Cpu.{Cpu}
 use Rattle.t414_step.specs.ChannelRows.{CpuEffect}
-use Rattle.occam_code.specs.Processes.{Exchange, Said, Heard}
+use Rattle.occam_core.specs.Processes.{Exchange, Said, Heard}
 use Rattle.occam_code.specs.Machine.{done_at}
 
 -- the address of each place, the place at each address, and what A, B and C are after the processor may have been given

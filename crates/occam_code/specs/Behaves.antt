@@ -5,8 +5,8 @@ use Rattle.node_memory.specs.declared.fault.Fault.TheVariants.{ErrorSet}
 use Rattle.t414_assembly.specs.declared.statement.Statement.{Statement}
 use Rattle.occam_core.specs.declared.expression.Expression.{Expression}
 use Rattle.occam_core.specs.declared.process.CoreProcess.{CoreProcess}
-use Rattle.occam_core.specs.declared.process.CoreProcess.TheVariants.{Line', Assign, AssignElement, Input, Output, Sequence', If', While', Repeat'}
-use Rattle.occam_code.specs.Processes.{Exchange, Situation, Ended, Erred, Awaits, Unfinished, does, IsSequential}
+use Rattle.occam_core.specs.declared.process.CoreProcess.TheVariants.{Line', Assign, AssignElement, Copy, Input, InputElement, InputArray, Output, OutputArray, Sequence', If', While', Repeat'}
+use Rattle.occam_core.specs.Processes.{Exchange, Situation, Ended, Erred, Awaits, Unfinished, does, IsSequential}
 use Rattle.occam_code.specs.declared.frame.FrameWords.{FrameWords}
 use Rattle.occam_code.specs.Words.{process_temporaries}
 use Rattle.occam_code.specs.Code.{process_code}
@@ -23,7 +23,13 @@ ProcessIsWithin count (Line' at p a) = ProcessIsWithin count a
 ProcessIsWithin count (Assign v e) = (v < count) × IsWithin count e
 ProcessIsWithin count (AssignElement array i e) =
     (array.first + array_words array.kind array.length ≤ count) × IsWithin count i × IsWithin count e
+ProcessIsWithin count (Copy to from) =
+    (to.first + array_words to.kind to.length ≤ count) × (from.first + array_words to.kind to.length ≤ count)
 ProcessIsWithin count (Input c kind v) = v < count
+ProcessIsWithin count (InputElement c array i) =
+    (array.first + array_words array.kind array.length ≤ count) × IsWithin count i
+ProcessIsWithin count (InputArray c array) = array.first + array_words array.kind array.length ≤ count
+ProcessIsWithin count (OutputArray c array) = array.first + array_words array.kind array.length ≤ count
 ProcessIsWithin count (Output c kind e) = IsWithin count e
 ProcessIsWithin count (Sequence' p a q b) = ProcessIsWithin count a × ProcessIsWithin count b
 ProcessIsWithin count (If' e p a q b) = IsWithin count e × ProcessIsWithin count a × ProcessIsWithin count b
@@ -82,14 +88,18 @@ pub record Behaves (p : CoreProcess) (at : Situation) (run : ℕ → LoneStage) 
       → (n : ℕ) × (does n p at ≡ Erred talk) × (fault ≡ ErrorSet)
   pub waits_only : (k : ℕ) (talk : List Exchange) → run k ≡ AtInput talk → (n : ℕ) × (does n p at ≡ Awaits talk)
 
--- the code of a sequential process, in every program that has it from a place on, at whatever addresses, whatever
--- comes, and whatever others leave in registers: up to its end it does what the process does
+-- where a program has the code of a process from a place on, at whatever addresses, whatever comes, and whatever others
+-- leave in registers: up to its end the code does what the process does
+abbrev pub ProcessBehaves : CoreProcess → ℕ → FrameWords → List Statement → Type 0
+ProcessBehaves p first words program =
+    let last = first + length (process_code first words p) in
+    (g : LoneSetting) (size : ℕ) (at : Situation) (s : LoneProcess) → IsBegun g first last words size p at s
+    → Behaves p at (λ k. stage_after g (take last program) k s) (IsPastCode g last words size s)
+
+-- so does the code of each sequential process, in every program that has it from a place on
 abbrev pub CodeBehaves : Type 0
 CodeBehaves =
     (p : CoreProcess) (first : ℕ) (words : FrameWords) (program : List Statement) → IsSequential p
     → ((i : ℕ) → i < length (process_code first words p)
     → slice_get program (first + i) ≡ slice_get (process_code first words p) i)
-    → (g : LoneSetting) (size : ℕ) (at : Situation) (s : LoneProcess)
-    → IsBegun g first (first + length (process_code first words p)) words size p at s
-    → Behaves p at (λ k. stage_after g (take (first + length (process_code first words p)) program) k s)
-    (IsPastCode g (first + length (process_code first words p)) words size s)
+    → ProcessBehaves p first words program

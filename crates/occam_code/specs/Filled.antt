@@ -1,6 +1,5 @@
 -- What appending the processes of a PAR or an ALT changes in the code before them.
 use Rattle.std.specs.Prelude.{ℕ, ◌≡◌, ◌+◌, ◌==◌, List, [], ◌∷◌, ◌++◌, Bool, true, false, flat_map, length, map, if◌then◌else◌}
-use Rattle.node_memory.specs.Words.{◌⊕◌}
 use Rattle.t414_assembly.specs.declared.statement.Statement.{Statement}
 use Rattle.occam_core.specs.declared.channel.CoreChannel.{CoreChannel}
 use Rattle.occam_core.specs.declared.channel.CoreChannel.TheVariants.{Link, Inside, Element}

@@ -1,6 +1,6 @@
 -- The code of channels, and of the guards of an ALT.
 -- The operands of enbc, disc, enbs, diss: instruction set handbook, alternative input.
-use Rattle.std.specs.Prelude.{ℕ, ◌+◌, ◌*◌, ◌==◌, ◌||◌, not, List, [], ◌∷◌, ◌++◌, Bool, true, false, length, map, if◌then◌else◌}
+use Rattle.std.specs.Prelude.{ℕ, ◌+◌, ◌*◌, ◌==◌, ◌||◌, not, List, [], ◌∷◌, ◌++◌, Bool, false, length, map, if◌then◌else◌}
 use Rattle.node_memory.specs.Words.{◌⊕◌}
 use Rattle.t414_assembly.specs.declared.statement.Statement.{Statement}
 use Rattle.occam_core.specs.declared.channel.CoreChannel.{CoreChannel}

@@ -8,7 +8,6 @@ pub mod Code
 pub mod Layout
 pub mod Machine
 pub mod Evaluates
-pub mod Processes
 pub mod Alone
 pub mod Behaves
 -- what only helps contracts

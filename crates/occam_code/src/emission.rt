@@ -1,6 +1,8 @@
 //! The code of a whole program.
 ghost use Rattle.std.specs.Prelude.{◌≡◌, ◌++◌, IfOk, OnOk, length};
-ghost use Rattle.occam_code.specs.Code.{workspace_move, start_code, words_code, tables_code, program_words as words_of_program, program_code, program_marks};
+ghost use Rattle.occam_code.specs.Code.{workspace_move, start_code, words_code, tables_code, program_words as words_of_program, program_code, program_marks, program_start};
+ghost use Rattle.occam_code.specs.Behaves.{ProcessBehaves};
+ghost use Rattle.occam_core.specs.Processes.{IsSequential};
 
 use crate::frame::FrameWords;
 use crate::instructions::*;
@@ -33,10 +35,27 @@ pub struct Emission {
 /// each process below it. Then the program has errors halt the node, and its process ends by `stopp`. If it needs more
 /// than 2,048 bytes for its words it stores to the last of them first: so a node that is too small halts immediately.
 ///
+/// Where the process is sequential, its code, run by itself, does what the process does.
+///
 /// # Errors
 ///
 /// If the code can't be kept.
 pub fn emit_program(
+    alloc: Global,
+    p: &CoreProcess,
+    variables: u32,
+    tables: &[u32],
+) -> Result<Emission, AllocError>
+    ensures code { IfOk result (λ e. e.statements.items ≡ program_code variables tables.now p.now) }
+    ensures marks { IfOk result (λ e. e.marks.items ≡ program_marks variables tables.now p.now) }
+    ensures behaves { IsSequential p.now → IfOk result (λ e. ProcessBehaves p.now
+        (length (program_start variables (length tables.now) p.now)) (words_of_program variables) e.statements.items) }
+{
+    emit_whole(alloc, p, variables, tables)
+}
+
+// The same code.
+fn emit_whole(
     alloc: Global,
     p: &CoreProcess,
     variables: u32,

@@ -1,2 +1,5 @@
 -- what must be believed
 pub mod Values
+pub mod Processes
+pub mod Traces
+pub mod Laws

@@ -3,8 +3,10 @@
 
 mod channel;
 mod expression;
+mod laws;
 mod process;
 
 pub use channel::{CoreChannel, CoreGuard, MessageKind};
 pub use expression::{CoreArray, ElementKind, Expression, OneOperation, TwoOperation};
+pub use laws::{beginnings_are_traces, sequential_processes_run, sequential_runs_are_done};
 pub use process::{CorePlace, CoreProcess};

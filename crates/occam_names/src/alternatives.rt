@@ -129,7 +129,7 @@ impl<'a, 'b> Namer<'a, 'b> {
         depth: u8,
         row: &mut Vec<CoreAlternative>,
     ) {
-        let condition = self.guard_condition(alternative.condition.as_ref());
+        let condition = self.guard_condition(alternative.condition.as_deref());
         let input = self.guard_input(&alternative.guard);
         let process = self.process(&alternative.process, false, depth);
         if let Some(condition) = condition {

@@ -39,7 +39,7 @@ impl<'a, 'b> Namer<'a, 'b> {
             ChannelForm::One => None,
             ChannelForm::Array(length) => length,
         };
-        let place = match self.new_channels(name, length) {
+        let place = match self.new_channels(name, length, channel.message) {
             Some(first) => ChannelPlace::Inside(first),
             None => ChannelPlace::Wrong,
         };

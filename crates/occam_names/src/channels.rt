@@ -184,7 +184,7 @@ impl<'a, 'b> Namer<'a, 'b> {
     ) -> Option<TypedChannel> {
         let name = element.name;
         let hint = Some(MeaningHint::Assignment(name.text));
-        let channel = self.named_channel(name, element.subscript.as_ref(), hint)?;
+        let channel = self.named_channel(name, element.subscript.as_deref(), hint)?;
         let declared = self.channels.get(channel.index).copied()?;
         let subscript = channel.subscript;
         let channel = self

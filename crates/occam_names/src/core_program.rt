@@ -2,12 +2,13 @@
 ghost use Rattle.std.specs.Prelude.{IfErr};
 ghost use Rattle.occam_names.specs.Mistakes.{HasMistakes};
 
+use crate::meaning::{MessageType, kind_of, words_for};
 use crate::mistakes::OccamNamesFault;
 use crate::namer::Namer;
 use crate::tables::Tables;
 use crate::variables::MOST_VARIABLES;
 use occam_core::CoreProcess;
-use occam_tree::{DataType, SourceDeclaration, SourceProcess};
+use occam_tree::{DataType, SourceDeclaration, SourceProcess, TextPlace};
 use std::alloc::Global;
 
 /// What is in the word of a variable.
@@ -40,6 +41,51 @@ pub struct LinkChannelName<'a> {
     pub name: &'a str,
     /// The line that declares it.
     pub line: u32,
+    /// What one message of it is.
+    pub message: MessageType,
+}
+
+/// What a declaration makes of words.
+#[derive(Clone, Copy)]
+pub enum DeclaredForm {
+    /// A variable of this type.
+    One(DataType),
+    /// An array of this length and type.
+    Array(u32, DataType),
+    /// The index of `SEQ` with a replicator. The word after it counts the turns that are left.
+    Index,
+    /// A channel within the node, whose messages are these.
+    Channel(MessageType),
+    /// An array of this many such channels.
+    ChannelArray(u32, MessageType),
+    /// A constant table of this length and type.
+    Table(u32, DataType),
+}
+
+impl DeclaredForm {
+    /// How many words it takes.
+    pub fn words(self) -> u32 {
+        match self {
+            DeclaredForm::One(_) | DeclaredForm::Channel(_) => 1,
+            DeclaredForm::Index => 2,
+            DeclaredForm::Array(length, data_type) | DeclaredForm::Table(length, data_type) => {
+                words_for(kind_of(data_type), length)
+            }
+            DeclaredForm::ChannelArray(length, _) => length,
+        }
+    }
+}
+
+/// What has words of its own.
+#[derive(Clone, Copy)]
+pub struct CoreDeclaration<'a> {
+    /// Its name in the text. The subscript of an abbreviation, and a table that no `VAL` names, have none.
+    pub name: Option<&'a str>,
+    /// Where the text declares it. What is in the body of a procedure that is in no text of the user has no place.
+    pub place: Option<TextPlace>,
+    /// The number of the variable that is its first word.
+    pub first: u32,
+    pub form: DeclaredForm,
 }
 
 /// The core of a program, and its variables.
@@ -50,6 +96,8 @@ pub struct CoreProgram<'a> {
     pub variables: Vec<CoreVariable<'a>>,
     /// The channels at links. No two have one number.
     pub links: Vec<LinkChannelName<'a>>,
+    /// What declares the variables. But for tables, each has the variables after those of the one before it.
+    pub declarations: Vec<CoreDeclaration<'a>>,
     /// The words of constant tables. They are the first of the variables, have these values from the start, and never change.
     pub tables: Vec<u32>,
 }
@@ -94,6 +142,7 @@ fn core_with<'a, 'b>(
             process,
             variables: namer.variables,
             links: namer.links,
+            declarations: namer.declared,
             tables: namer.tables.into_words(),
         })
     } else {

@@ -8,7 +8,6 @@ use crate::meaning::{
 use crate::met::MetMeaning;
 use crate::namer::Namer;
 use crate::scope::Meaning;
-use crate::variables::named_variable;
 use occam_core::CoreProcess;
 use occam_tree::{
     DataType, SourceDeclaration, SourceElement, SourceName, SourceType, SourceValue, TextPlace,
@@ -73,7 +72,7 @@ impl<'a, 'b> Namer<'a, 'b> {
     ) {
         let meaning = match self.type_meaning(original_type, name.place) {
             Some(expected) => {
-                let subscript = original.subscript.as_ref();
+                let subscript = original.subscript.as_deref();
                 self.renamed_meaning(name, expected, original.name, subscript, row)
             }
             None => None,
@@ -144,8 +143,7 @@ impl<'a, 'b> Namer<'a, 'b> {
     ) -> Option<Meaning> {
         match new_type {
             TypeMeaning::Data(data_type) => {
-                let variable = named_variable(name, data_type);
-                let number = self.new_variable(name.place, variable)?;
+                let number = self.new_variable(Some(name.text), name.place, data_type)?;
                 Some(Meaning::Variable(data_type, Cell::Variable(number), access))
             }
             TypeMeaning::Array(length, data_type) => {

@@ -229,7 +229,7 @@ impl<'a, 'b> Namer<'a, 'b> {
             },
             _ => ExpectedMeaning::Variable,
         };
-        let target = self.element(name, element.subscript.as_ref(), expected, hint)?;
+        let target = self.element(name, element.subscript.as_deref(), expected, hint)?;
         if self.is_changing(name, &target) && self.may_change(name, target.region) {
             Some(target)
         } else {

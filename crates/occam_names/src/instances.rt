@@ -220,14 +220,11 @@ impl<'a, 'b> Namer<'a, 'b> {
         if formal.is_value {
             return self.value_meaning(name, Some(formal_type), actual, row);
         }
-        match actual {
-            SourceValue::Expression(SourceExpression::Name(original)) => {
-                self.renamed_meaning(name, formal_type, *original, None, row)
+        match written_element(actual) {
+            Some((original, subscript)) => {
+                self.renamed_meaning(name, formal_type, original, subscript, row)
             }
-            SourceValue::Expression(SourceExpression::Element(original, subscript)) => {
-                self.renamed_meaning(name, formal_type, *original, Some(subscript), row)
-            }
-            _ => {
+            None => {
                 let expected = ExpectedMeaning::ActualOf(formal_type);
                 self.tell_no_name(actual, expected);
                 None
@@ -249,5 +246,19 @@ impl<'a, 'b> Namer<'a, 'b> {
                     .tell(place_of_table(table), expected, MetMeaning::Table, None);
             }
         }
+    }
+}
+
+// A name or an element of an array, if a value is one as it is written.
+fn written_element<'b, 'a>(
+    actual: &'b SourceValue<'a>,
+) -> Option<(SourceName<'a>, Option<&'b SourceExpression<'a>>)> {
+    let SourceValue::Expression(expression) = actual else {
+        return None;
+    };
+    match &**expression {
+        SourceExpression::Name(name) => Some((*name, None)),
+        SourceExpression::Element(name, subscript) => Some((*name, Some(subscript))),
+        _ => None,
     }
 }

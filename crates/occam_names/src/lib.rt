@@ -36,8 +36,13 @@ mod types;
 mod values;
 mod variables;
 
-pub use core_program::{CoreProgram, CoreVariable, LinkChannelName, VariableKind, core_of};
+pub use constants::constant_value;
+pub use core_program::{
+    CoreDeclaration, CoreProgram, CoreVariable, DeclaredForm, LinkChannelName, VariableKind,
+    core_of,
+};
 pub use expected::ExpectedMeaning;
 pub use fault::{MeaningHint, NameMistake};
-pub use met::{MetMeaning, NameKind};
+pub use meaning::MessageType;
+pub use met::{LINK_NAMES, MetMeaning, NameKind, word_of_link, word_of_type};
 pub use mistakes::{MOST_MISTAKES, NameMistakes, OccamNamesFault};

@@ -1,7 +1,7 @@
 //! What is known of a text while its names are found.
 
 use crate::channels::DeclaredChannel;
-use crate::core_program::{CoreVariable, LinkChannelName};
+use crate::core_program::{CoreDeclaration, CoreVariable, LinkChannelName};
 use crate::expected::ExpectedMeaning;
 use crate::fault::MeaningHint;
 use crate::marks::RegionMarks;
@@ -22,6 +22,8 @@ pub struct Namer<'a, 'b> {
     pub marks: RegionMarks<'a>,
     /// The variables so far, by their numbers.
     pub variables: Vec<CoreVariable<'a>>,
+    /// What declares them.
+    pub declared: Vec<CoreDeclaration<'a>>,
     pub tables: Tables,
     /// What declares channels, and is in scope.
     pub channels: Vec<DeclaredChannel<'a>>,
@@ -37,6 +39,7 @@ pub struct NamedBefore<'a> {
     names: usize,
     marks: usize,
     variables: usize,
+    declared: usize,
     channels: usize,
     procedures: usize,
 }
@@ -49,6 +52,7 @@ impl<'a, 'b> Namer<'a, 'b> {
             scope: Scope::new(alloc),
             marks: RegionMarks::new(alloc),
             variables: Vec::new(alloc),
+            declared: Vec::new(alloc),
             tables,
             channels: Vec::new(alloc),
             links: Vec::new(alloc),
@@ -63,6 +67,7 @@ impl<'a, 'b> Namer<'a, 'b> {
             names: self.scope.len(),
             marks: self.marks.len(),
             variables: self.variables.len(),
+            declared: self.declared.len(),
             channels: self.channels.len(),
             procedures: self.procedures.len(),
         }
@@ -74,6 +79,7 @@ impl<'a, 'b> Namer<'a, 'b> {
         self.leave(before.names);
         self.marks.truncate(before.marks);
         self.variables.truncate(before.variables);
+        self.declared.truncate(before.declared);
         self.channels.truncate(before.channels);
         self.procedures.truncate(before.procedures);
     }

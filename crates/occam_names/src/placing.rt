@@ -70,9 +70,15 @@ impl<'a, 'b> Namer<'a, 'b> {
         if let Some(channel) = self.channels.get(index).copied() {
             let name = channel.name.text;
             let line = channel.name.place.line;
+            let message = channel.message;
             let is_added = self
                 .links
-                .push(LinkChannelName { number, name, line })
+                .push(LinkChannelName {
+                    number,
+                    name,
+                    line,
+                    message,
+                })
                 .is_ok();
             self.notes.note_memory(is_added);
         }

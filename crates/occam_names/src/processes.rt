@@ -9,7 +9,6 @@ use crate::met::MetMeaning;
 use crate::namer::Namer;
 use crate::rows::{CoreChoice, chain_of, in_sequence};
 use crate::scope::Meaning;
-use crate::variables::{hidden_variable, named_variable};
 use occam_core::{CoreProcess, Expression};
 use occam_tree::{
     DataType, Replicator, SourceChoice, SourceDeclaration, SourceElement, SourceExpression,
@@ -225,15 +224,6 @@ impl<'a, 'b> Namer<'a, 'b> {
         self.notes
             .tell(count.place, ExpectedMeaning::CountValue, met, None);
         None
-    }
-
-    // The number of the variable of an index. The next one counts the turns.
-    fn new_index(&mut self, index: SourceName<'a>) -> Option<u32> {
-        let variable = named_variable(index, DataType::Int);
-        let number = self.new_variable(index.place, variable);
-        let counter = hidden_variable(index.place, DataType::Int);
-        self.new_variable(index.place, counter)?;
-        number
     }
 
     // `IF`

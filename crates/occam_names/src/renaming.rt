@@ -11,7 +11,6 @@ use crate::met::MetMeaning;
 use crate::namer::Namer;
 use crate::scope::{FoundName, Meaning};
 use crate::values::variable_of;
-use crate::variables::hidden_variable;
 use occam_core::{CoreArray, CoreProcess, Expression};
 use occam_tree::{DataType, SourceExpression, SourceName};
 
@@ -133,8 +132,7 @@ impl<'a, 'b> Namer<'a, 'b> {
         if let Some(number) = variable_of(&subscript) {
             return Some(number);
         }
-        let variable = hidden_variable(name.place, DataType::Int);
-        let number = self.new_variable(name.place, variable)?;
+        let number = self.new_variable(None, name.place, DataType::Int)?;
         self.notes.add(row, CoreProcess::Assign(number, subscript));
         Some(number)
     }

@@ -7,7 +7,6 @@ use crate::namer::{NamedBefore, Namer};
 use crate::notes::{Notes, Surroundings};
 use crate::scope::Meaning;
 use crate::types::ConstantValue;
-use crate::variables::named_variable;
 use occam_tree::{DataType, Replicator, SourceExpression, SourceName, TextPlace};
 
 /// How many components a `PAR` has at most, and how many alternatives an `ALT`.
@@ -98,8 +97,7 @@ impl<'a, 'b> Namer<'a, 'b> {
     /// What a text has so far, before a body is checked with an index that rests on parameters.
     pub fn begin_index_check(&mut self, index: SourceName<'a>) -> NamedBefore<'a> {
         let before = self.begin_check(None);
-        let variable = named_variable(index, DataType::Int);
-        let meaning = match self.new_variable(index.place, variable) {
+        let meaning = match self.new_variable(Some(index.text), index.place, DataType::Int) {
             Some(number) => {
                 let cell = Cell::Variable(number);
                 Meaning::Variable(DataType::Int, cell, Access::ConstantIndex)

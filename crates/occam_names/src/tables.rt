@@ -1,6 +1,7 @@
 //! Constant tables.
 
 use crate::arrays::TypedArray;
+use crate::core_program::DeclaredForm;
 use crate::expected::ExpectedMeaning;
 use crate::expressions::{TypedExpression, number_of};
 use crate::fault::MeaningHint;
@@ -141,7 +142,7 @@ impl<'a, 'b> Namer<'a, 'b> {
     // The type of the values of a table, which are added to a row.
     fn table_values(
         &mut self,
-        expressions: &[SourceExpression<'a>],
+        expressions: &[Box<SourceExpression<'a>>],
         values: &mut Vec<u32>,
     ) -> Option<DataType> {
         let mut data_type = None;
@@ -179,7 +180,12 @@ impl<'a, 'b> Namer<'a, 'b> {
         data_type: DataType,
         values: &[u32],
     ) -> Option<TypedArray> {
+        let before = self.tables.words.len();
         let array = self.array_of_table(place, kind_of(data_type), values)?;
+        if self.tables.words.len() > before {
+            let form = DeclaredForm::Table(array.length, data_type);
+            self.note_declared(None, place, array.first, form);
+        }
         if self.tables.words.len() > MOST_VARIABLES {
             self.notes.tell_many(place);
         }
@@ -190,6 +196,16 @@ impl<'a, 'b> Namer<'a, 'b> {
             is_sized: true,
         };
         Some(TypedArray { place, array })
+    }
+
+    /// Gives a name to the table with this first word, if it was declared last.
+    pub fn name_table(&mut self, name: &'a str, first: u32) {
+        if let Some(last) = self.declared.last_mut()
+            && let DeclaredForm::Table(_, _) = last.form
+            && last.first == first
+        {
+            last.name = Some(name);
+        }
     }
 
     // The array that a table is.

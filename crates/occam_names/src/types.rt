@@ -126,7 +126,7 @@ impl<'a, 'b> Namer<'a, 'b> {
         match source {
             SourceType::Data(data_type) => Some(TypeMeaning::Data(*data_type)),
             SourceType::Array(size, data_type) => {
-                let length = self.length_of_type(size.as_ref(), SizedArray::Elements)?;
+                let length = self.length_of_type(size.as_deref(), SizedArray::Elements)?;
                 Some(TypeMeaning::Array(length, *data_type))
             }
             SourceType::Channel(message) => {
@@ -134,7 +134,7 @@ impl<'a, 'b> Namer<'a, 'b> {
                 Some(TypeMeaning::Channel(message))
             }
             SourceType::ChannelArray(size, message) => {
-                let length = self.length_of_type(size.as_ref(), SizedArray::Channels);
+                let length = self.length_of_type(size.as_deref(), SizedArray::Channels);
                 let message = self.message_type(message, place)?;
                 Some(TypeMeaning::ChannelArray(length?, message))
             }

@@ -9,7 +9,6 @@ use crate::met::MetMeaning;
 use crate::namer::Namer;
 use crate::notes::Notes;
 use crate::scope::Meaning;
-use crate::variables::named_variable;
 use occam_core::{CoreProcess, Expression};
 use occam_tree::{SourceExpression, SourceName, SourceValue};
 
@@ -99,6 +98,7 @@ impl<'a, 'b> Namer<'a, 'b> {
             access: _,
             is_sized,
         } = typed.array;
+        self.name_table(name.text, array.first);
         self.mark(name, MarkKind::Frozen, Region::of_array(array));
         Some(Meaning::Array(ArrayMeaning {
             data_type,
@@ -142,8 +142,7 @@ impl<'a, 'b> Namer<'a, 'b> {
         let number = match variable_of(&typed.expression) {
             Some(number) => number,
             None => {
-                let variable = named_variable(name, data_type);
-                let number = self.new_variable(name.place, variable)?;
+                let number = self.new_variable(Some(name.text), name.place, data_type)?;
                 self.notes
                     .add(row, CoreProcess::Assign(number, typed.expression));
                 number

@@ -1,7 +1,7 @@
 //! New variables.
 
-use crate::core_program::{CoreVariable, VariableKind};
-use crate::meaning::{kind_of, words_for};
+use crate::core_program::{CoreDeclaration, CoreVariable, DeclaredForm, VariableKind};
+use crate::meaning::{MessageType, kind_of, words_for};
 use crate::namer::Namer;
 use occam_core::{CoreArray, ElementKind};
 use occam_tree::{DataType, SourceName, TextPlace};
@@ -9,20 +9,14 @@ use occam_tree::{DataType, SourceName, TextPlace};
 /// How many variables a program has.
 pub const MOST_VARIABLES: usize = 16_000;
 
-/// A variable that has a name.
-pub fn named_variable(name: SourceName<'_>, data_type: DataType) -> CoreVariable<'_> {
+// A variable of a type, which has this name if it has one.
+fn variable_of_type<'a>(
+    name: Option<&'a str>,
+    place: TextPlace,
+    data_type: DataType,
+) -> CoreVariable<'a> {
     CoreVariable {
-        name: Some(name.text),
-        kind: VariableKind::Data(data_type),
-        line: name.place.line,
-        element: None,
-    }
-}
-
-/// A variable that only the core has.
-pub fn hidden_variable<'a>(place: TextPlace, data_type: DataType) -> CoreVariable<'a> {
-    CoreVariable {
-        name: None,
+        name,
         kind: VariableKind::Data(data_type),
         line: place.line,
         element: None,
@@ -38,11 +32,52 @@ fn first_in_word(kind: ElementKind, word: u32) -> u32 {
 }
 
 impl<'a, 'b> Namer<'a, 'b> {
-    /// The number of a new variable, unless there are too many of them.
-    pub fn new_variable(&mut self, place: TextPlace, variable: CoreVariable<'a>) -> Option<u32> {
+    /// The number of a new variable of a type, unless there are too many of them. Without a name only the core has it.
+    pub fn new_variable(
+        &mut self,
+        name: Option<&'a str>,
+        place: TextPlace,
+        data_type: DataType,
+    ) -> Option<u32> {
         let number = self.room_for(place, 1)?;
-        self.add_variable(variable);
+        self.add_variable(variable_of_type(name, place, data_type));
+        self.note_declared(name, place, number, DeclaredForm::One(data_type));
         Some(number)
+    }
+
+    /// The number of the variable of a new index, unless there are too many of them. The next one counts the turns.
+    pub fn new_index(&mut self, index: SourceName<'a>) -> Option<u32> {
+        let place = index.place;
+        let name = Some(index.text);
+        let number = self.room_for(place, 2)?;
+        self.add_variable(variable_of_type(name, place, DataType::Int));
+        self.add_variable(variable_of_type(None, place, DataType::Int));
+        self.note_declared(name, place, number, DeclaredForm::Index);
+        Some(number)
+    }
+
+    /// Notes what is declared at a place, and has words from this number on.
+    pub fn note_declared(
+        &mut self,
+        name: Option<&'a str>,
+        place: TextPlace,
+        first: u32,
+        form: DeclaredForm,
+    ) {
+        let place = match self.notes.around.prelude {
+            Some(_) => None,
+            None => Some(place),
+        };
+        let is_added = self
+            .declared
+            .push(CoreDeclaration {
+                name,
+                place,
+                first,
+                form,
+            })
+            .is_ok();
+        self.notes.note_memory(is_added);
     }
 
     // The number of the next variable, if there may be as many more.
@@ -76,10 +111,12 @@ impl<'a, 'b> Namer<'a, 'b> {
         let words = words_for(kind, length);
         let first = self.room_for(name.place, words)?;
         for word in 0..words {
-            let mut variable = named_variable(name, data_type);
+            let mut variable = variable_of_type(Some(name.text), name.place, data_type);
             variable.element = Some(first_in_word(kind, word));
             self.add_variable(variable);
         }
+        let form = DeclaredForm::Array(length, data_type);
+        self.note_declared(Some(name.text), name.place, first, form);
         Some(CoreArray {
             first,
             length,
@@ -87,9 +124,14 @@ impl<'a, 'b> Namer<'a, 'b> {
         })
     }
 
-    /// The number of the first of new variables for a channel, or for an array of this length, unless there are too many
-    /// variables.
-    pub fn new_channels(&mut self, name: SourceName<'a>, length: Option<u32>) -> Option<u32> {
+    /// The number of the first of new variables for a channel of these messages, or for an array of this length, unless there
+    /// are too many variables.
+    pub fn new_channels(
+        &mut self,
+        name: SourceName<'a>,
+        length: Option<u32>,
+        message: MessageType,
+    ) -> Option<u32> {
         let words = length.unwrap_or(1);
         let first = self.room_for(name.place, words)?;
         for word in 0..words {
@@ -104,6 +146,11 @@ impl<'a, 'b> Namer<'a, 'b> {
                 element,
             });
         }
+        let form = match length {
+            Some(length) => DeclaredForm::ChannelArray(length, message),
+            None => DeclaredForm::Channel(message),
+        };
+        self.note_declared(Some(name.text), name.place, first, form);
         Some(first)
     }
 
@@ -113,7 +160,7 @@ impl<'a, 'b> Namer<'a, 'b> {
         for _ in 0..words {
             let is_added = self
                 .variables
-                .push(hidden_variable(place, DataType::Int))
+                .push(variable_of_type(None, place, DataType::Int))
                 .is_ok();
             self.notes.note_memory(is_added);
         }

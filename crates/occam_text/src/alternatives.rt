@@ -81,7 +81,7 @@ impl<'a, 'b> TreeReader<'a, 'b> {
     }
 
     // The condition before `&`, if there is one.
-    fn take_guard_condition(&mut self) -> Result<Option<SourceExpression<'a>>, ReadStop> {
+    fn take_guard_condition(&mut self) -> Result<Option<Box<SourceExpression<'a>>>, ReadStop> {
         if !self.has_condition() {
             return Ok(None);
         }

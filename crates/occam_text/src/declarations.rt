@@ -199,7 +199,7 @@ impl<'a, 'b> TreeReader<'a, 'b> {
     }
 
     // `[size]` or `[]`
-    fn take_size(&mut self) -> Result<Option<SourceExpression<'a>>, ReadStop> {
+    fn take_size(&mut self) -> Result<Option<Box<SourceExpression<'a>>>, ReadStop> {
         self.find_no_slice()?;
         match self.second_kind() {
             TokenKind::CloseBracket => {

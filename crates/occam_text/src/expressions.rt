@@ -13,6 +13,7 @@ use crate::words::TokenKind;
 use occam_tree::{
     Conversion, DataType, DyadicSign, MonadicSign, SourceExpression, SourceName, TextPlace,
 };
+use std::alloc::Global;
 
 // How many characters of an operation a hint shows at most.
 const MOST_SHOWN: usize = 40;
@@ -22,7 +23,7 @@ impl<'a, 'b> TreeReader<'a, 'b> {
     ///
     /// # Errors
     /// Faults 6, 7, 10 and 38, and those of its words.
-    pub fn take_expression(&mut self) -> Result<SourceExpression<'a>, ReadStop> {
+    pub fn take_expression(&mut self) -> Result<Box<SourceExpression<'a>>, ReadStop> {
         self.take_single_expression(ExpectedPart::OneOperator)
     }
 
@@ -30,7 +31,7 @@ impl<'a, 'b> TreeReader<'a, 'b> {
     ///
     /// # Errors
     /// The same, and fault 11.
-    pub fn take_expression_line(&mut self) -> Result<SourceExpression<'a>, ReadStop> {
+    pub fn take_expression_line(&mut self) -> Result<Box<SourceExpression<'a>>, ReadStop> {
         let expression = self.take_expression()?;
         self.take_line_end(ExpectedPart::LineEndOrOperator)?;
         Ok(expression)
@@ -43,7 +44,7 @@ impl<'a, 'b> TreeReader<'a, 'b> {
     pub fn take_single_expression(
         &mut self,
         single: ExpectedPart,
-    ) -> Result<SourceExpression<'a>, ReadStop> {
+    ) -> Result<Box<SourceExpression<'a>>, ReadStop> {
         self.take_nested_expression(MOST_NESTING, single)
     }
 
@@ -53,7 +54,7 @@ impl<'a, 'b> TreeReader<'a, 'b> {
         &mut self,
         depth: u8,
         single: ExpectedPart,
-    ) -> Result<SourceExpression<'a>, ReadStop> {
+    ) -> Result<Box<SourceExpression<'a>>, ReadStop> {
         let start = self.place();
         let expression = self.take_operation(depth)?;
         match self.kind() {
@@ -67,7 +68,7 @@ impl<'a, 'b> TreeReader<'a, 'b> {
 
     // An expression up to its end or its second operator.
     #[cycle(expression)]
-    fn take_operation(&mut self, depth: u8) -> Result<SourceExpression<'a>, ReadStop> {
+    fn take_operation(&mut self, depth: u8) -> Result<Box<SourceExpression<'a>>, ReadStop> {
         match self.kind() {
             TokenKind::Type(data_type) => self.take_converted(conversion_to(data_type), depth),
             TokenKind::Size => self.take_array_size(),
@@ -84,11 +85,11 @@ impl<'a, 'b> TreeReader<'a, 'b> {
         &mut self,
         sign: MonadicSign,
         depth: u8,
-    ) -> Result<SourceExpression<'a>, ReadStop> {
+    ) -> Result<Box<SourceExpression<'a>>, ReadStop> {
         let place = self.place();
         self.take();
-        let operand = self.take_boxed_operand(depth)?;
-        Ok(SourceExpression::Monadic(sign, place, operand))
+        let operand = self.take_operand(depth)?;
+        boxed(self.alloc, SourceExpression::Monadic(sign, place, operand))
     }
 
     // The type of this conversion, which is here, and what is converted.
@@ -97,15 +98,18 @@ impl<'a, 'b> TreeReader<'a, 'b> {
         &mut self,
         conversion: Conversion,
         depth: u8,
-    ) -> Result<SourceExpression<'a>, ReadStop> {
+    ) -> Result<Box<SourceExpression<'a>>, ReadStop> {
         let place = self.place();
         self.take();
-        let operand = self.take_boxed_operand(depth)?;
-        Ok(SourceExpression::Converted(conversion, place, operand))
+        let operand = self.take_operand(depth)?;
+        boxed(
+            self.alloc,
+            SourceExpression::Converted(conversion, place, operand),
+        )
     }
 
     // `SIZE name`
-    fn take_array_size(&mut self) -> Result<SourceExpression<'a>, ReadStop> {
+    fn take_array_size(&mut self) -> Result<Box<SourceExpression<'a>>, ReadStop> {
         let place = self.place();
         self.take();
         let name = self.take_name(ExpectedPart::SizedName)?;
@@ -113,13 +117,13 @@ impl<'a, 'b> TreeReader<'a, 'b> {
             TokenKind::OpenBracket => {
                 Err(self.wrong_with(ExpectedPart::LineEndOrOperator, SIZE_OF_ARRAY))
             }
-            _ => Ok(SourceExpression::Size(place, name)),
+            _ => boxed(self.alloc, SourceExpression::Size(place, name)),
         }
     }
 
     // An operand, or operands with an operator between them.
     #[cycle(expression)]
-    fn take_operands(&mut self, depth: u8) -> Result<SourceExpression<'a>, ReadStop> {
+    fn take_operands(&mut self, depth: u8) -> Result<Box<SourceExpression<'a>>, ReadStop> {
         let left = self.take_operand(depth)?;
         match self.kind() {
             TokenKind::Operator(sign) if is_chained(sign, sign) => self.take_row(left, sign, depth),
@@ -132,25 +136,27 @@ impl<'a, 'b> TreeReader<'a, 'b> {
     #[cycle(expression)]
     fn take_dyadic(
         &mut self,
-        left: SourceExpression<'a>,
+        left: Box<SourceExpression<'a>>,
         sign: DyadicSign,
         depth: u8,
-    ) -> Result<SourceExpression<'a>, ReadStop> {
+    ) -> Result<Box<SourceExpression<'a>>, ReadStop> {
         let place = self.place();
         self.take();
-        let left = Box::new(self.alloc, left)?;
-        let right = self.take_boxed_operand(depth)?;
-        Ok(SourceExpression::Dyadic(sign, place, left, right))
+        let right = self.take_operand(depth)?;
+        boxed(
+            self.alloc,
+            SourceExpression::Dyadic(sign, place, left, right),
+        )
     }
 
     // Operands with AND between them, or with OR, after the first one.
     #[cycle(expression)]
     fn take_row(
         &mut self,
-        left: SourceExpression<'a>,
+        left: Box<SourceExpression<'a>>,
         sign: DyadicSign,
         depth: u8,
-    ) -> Result<SourceExpression<'a>, ReadStop> {
+    ) -> Result<Box<SourceExpression<'a>>, ReadStop> {
         let mut row = Vec::new(self.alloc);
         let first = RowOperand {
             operator: self.place(),
@@ -178,16 +184,9 @@ impl<'a, 'b> TreeReader<'a, 'b> {
         Ok(RowOperand { operator, operand })
     }
 
-    // An operand in memory of its own.
-    #[cycle(expression)]
-    fn take_boxed_operand(&mut self, depth: u8) -> Result<Box<SourceExpression<'a>>, ReadStop> {
-        let operand = self.take_operand(depth)?;
-        Ok(Box::new(self.alloc, operand)?)
-    }
-
     // An operand: a name, an element, a literal, or an expression between parentheses.
     #[cycle(expression)]
-    fn take_operand(&mut self, depth: u8) -> Result<SourceExpression<'a>, ReadStop> {
+    fn take_operand(&mut self, depth: u8) -> Result<Box<SourceExpression<'a>>, ReadStop> {
         let position = self.position();
         let operand = match (self.kind(), self.second_kind()) {
             (TokenKind::Open, _) => self.take_parentheses(depth)?,
@@ -200,7 +199,7 @@ impl<'a, 'b> TreeReader<'a, 'b> {
 
     // An expression between parentheses.
     #[cycle(expression)]
-    fn take_parentheses(&mut self, depth: u8) -> Result<SourceExpression<'a>, ReadStop> {
+    fn take_parentheses(&mut self, depth: u8) -> Result<Box<SourceExpression<'a>>, ReadStop> {
         let Some(inner) = depth.checked_sub(1) else {
             return Err(self.too_deep());
         };
@@ -217,10 +216,10 @@ impl<'a, 'b> TreeReader<'a, 'b> {
 
     // An element of an array.
     #[cycle(expression)]
-    fn take_array_element(&mut self, depth: u8) -> Result<SourceExpression<'a>, ReadStop> {
+    fn take_array_element(&mut self, depth: u8) -> Result<Box<SourceExpression<'a>>, ReadStop> {
         let name = self.take_name(ExpectedPart::Operand)?;
         let subscript = self.take_subscript(depth)?;
-        Ok(SourceExpression::Element(name, Box::new(self.alloc, subscript)?))
+        boxed(self.alloc, SourceExpression::Element(name, subscript))
     }
 
     /// `[expression]`, with no subscript after it. Within it `depth` parentheses and brackets may begin, with its own.
@@ -228,7 +227,7 @@ impl<'a, 'b> TreeReader<'a, 'b> {
     /// # Errors
     /// Those of an expression.
     #[cycle(expression)]
-    pub fn take_subscript(&mut self, depth: u8) -> Result<SourceExpression<'a>, ReadStop> {
+    pub fn take_subscript(&mut self, depth: u8) -> Result<Box<SourceExpression<'a>>, ReadStop> {
         let Some(inner) = depth.checked_sub(1) else {
             return Err(self.too_deep());
         };
@@ -253,7 +252,7 @@ impl<'a, 'b> TreeReader<'a, 'b> {
     }
 
     // A name or a literal.
-    fn take_simple_operand(&mut self) -> Result<SourceExpression<'a>, ReadStop> {
+    fn take_simple_operand(&mut self) -> Result<Box<SourceExpression<'a>>, ReadStop> {
         let token = self.first();
         let place = token.place;
         let operand = match (token.kind, self.second_kind()) {
@@ -269,17 +268,17 @@ impl<'a, 'b> TreeReader<'a, 'b> {
             _ => return Err(self.wrong_operand()),
         };
         self.take();
-        Ok(operand)
+        boxed(self.alloc, operand)
     }
 
     // `MOSTPOS INT` or `MOSTNEG INT`, which is this number.
-    fn take_most(&mut self, number: u32) -> Result<SourceExpression<'a>, ReadStop> {
+    fn take_most(&mut self, number: u32) -> Result<Box<SourceExpression<'a>>, ReadStop> {
         let place = self.place();
         self.take();
         match self.kind() {
             TokenKind::Type(DataType::Int) => {
                 self.take();
-                Ok(SourceExpression::Number(number, place))
+                boxed(self.alloc, SourceExpression::Number(number, place))
             }
             _ => Err(self.wrong(ExpectedPart::IntegerType)),
         }
@@ -365,6 +364,17 @@ fn monadic_sign(kind: TokenKind) -> Option<MonadicSign> {
         TokenKind::Operator(DyadicSign::Minus) => Some(MonadicSign::Minus),
         _ => None,
     }
+}
+
+/// An expression in memory of its own.
+///
+/// # Errors
+/// If there is no memory for it.
+pub fn boxed<'a>(
+    alloc: Global,
+    expression: SourceExpression<'a>,
+) -> Result<Box<SourceExpression<'a>>, ReadStop> {
+    Ok(Box::new(alloc, expression)?)
 }
 
 fn conversion_to(data_type: DataType) -> Conversion {

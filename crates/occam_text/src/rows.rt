@@ -1,5 +1,6 @@
 //! Rows of operands with AND between them, or with OR, which are halved, and each half again.
 
+use crate::expressions::boxed;
 use crate::mistakes::ReadStop;
 use occam_tree::{DyadicSign, SourceExpression, TextPlace};
 use std::alloc::Global;
@@ -7,7 +8,7 @@ use std::alloc::Global;
 /// An operand, and where the operator before it is. The first operand of a row has the place of the one after it.
 pub struct RowOperand<'a> {
     pub operator: TextPlace,
-    pub operand: SourceExpression<'a>,
+    pub operand: Box<SourceExpression<'a>>,
 }
 
 // Dropped by hand, since a derived `Drop` makes callers prove the drop of each field.
@@ -22,7 +23,7 @@ impl<'a> Drop for RowOperand<'a> {
 
 impl<'a> RowOperand<'a> {
     // The place of its operator, and itself.
-    fn parts(self) -> (TextPlace, SourceExpression<'a>) {
+    fn parts(self) -> (TextPlace, Box<SourceExpression<'a>>) {
         let RowOperand { operator, operand } = self;
         (operator, operand)
     }
@@ -36,7 +37,7 @@ pub fn halved<'a>(
     alloc: Global,
     mut row: Vec<RowOperand<'a>>,
     sign: DyadicSign,
-) -> Result<SourceExpression<'a>, ReadStop> {
+) -> Result<Box<SourceExpression<'a>>, ReadStop> {
     for _ in 0..usize::BITS {
         if row.len() <= 1 {
             break;
@@ -83,10 +84,9 @@ fn joined<'a>(
     };
     let (place, first) = left.parts();
     let (operator, second) = right.parts();
-    let second = Box::new(alloc, second)?;
-    let first = Box::new(alloc, first)?;
+    let both = SourceExpression::Dyadic(sign, operator, first, second);
     Ok(RowOperand {
         operator: place,
-        operand: SourceExpression::Dyadic(sign, operator, first, second),
+        operand: boxed(alloc, both)?,
     })
 }

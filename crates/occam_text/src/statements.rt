@@ -180,7 +180,7 @@ impl<'a, 'b> TreeReader<'a, 'b> {
     }
 
     // `= expression FOR`
-    fn take_base(&mut self) -> Result<SourceExpression<'a>, ReadStop> {
+    fn take_base(&mut self) -> Result<Box<SourceExpression<'a>>, ReadStop> {
         match self.kind() {
             TokenKind::Operator(DyadicSign::Equal) => self.take(),
             _ => return Err(self.wrong(ExpectedPart::Equals)),
@@ -199,7 +199,7 @@ impl<'a, 'b> TreeReader<'a, 'b> {
     ///
     /// # Errors
     /// Faults 5, 6 and 11, and those of an expression.
-    pub fn take_condition(&mut self) -> Result<SourceExpression<'a>, ReadStop> {
+    pub fn take_condition(&mut self) -> Result<Box<SourceExpression<'a>>, ReadStop> {
         self.take();
         self.find_condition()?;
         let expression = self.take_expression()?;

@@ -29,7 +29,7 @@ impl<'a, 'b> TreeReader<'a, 'b> {
     ///
     /// # Errors
     /// Those of an expression.
-    pub fn take_bracketed_expression(&mut self) -> Result<SourceExpression<'a>, ReadStop> {
+    pub fn take_bracketed_expression(&mut self) -> Result<Box<SourceExpression<'a>>, ReadStop> {
         self.take_subscript(MOST_NESTING)
     }
 
@@ -95,7 +95,7 @@ impl<'a, 'b> TreeReader<'a, 'b> {
     }
 
     // The values of a table, with commas between them.
-    fn take_table_values(&mut self) -> Result<Vec<SourceExpression<'a>>, ReadStop> {
+    fn take_table_values(&mut self) -> Result<Vec<Box<SourceExpression<'a>>>, ReadStop> {
         let mut values = Vec::new(self.alloc);
         for _ in 0..=self.left() {
             let value = self.take_table_value()?;
@@ -107,7 +107,7 @@ impl<'a, 'b> TreeReader<'a, 'b> {
         Ok(values)
     }
 
-    fn take_table_value(&mut self) -> Result<SourceExpression<'a>, ReadStop> {
+    fn take_table_value(&mut self) -> Result<Box<SourceExpression<'a>>, ReadStop> {
         self.find_one_dimension()?;
         self.take_single_expression(ExpectedPart::OneOperatorInTable)
     }

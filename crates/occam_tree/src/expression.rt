@@ -117,7 +117,7 @@ pub enum SourceTable<'a> {
     /// A string: the bytes between its quotes, at least one.
     Text(TextPlace, Vec<u8>),
     /// `[expression, expression]`, at least one.
-    Values(TextPlace, Vec<SourceExpression<'a>>),
+    Values(TextPlace, Vec<Box<SourceExpression<'a>>>),
 }
 
 impl<'a> Drop for SourceTable<'a> {
@@ -132,7 +132,7 @@ impl<'a> Drop for SourceTable<'a> {
 /// What is sent, abbreviated or given to a procedure.
 pub enum SourceValue<'a> {
     /// An expression; an array too, by its name.
-    Expression(SourceExpression<'a>),
+    Expression(Box<SourceExpression<'a>>),
     Table(SourceTable<'a>),
 }
 

@@ -19,7 +19,7 @@ pub enum SourceMessage<'a> {
     /// `TYPE`
     One(DataType),
     /// `[size]TYPE`
-    Array(SourceExpression<'a>, DataType),
+    Array(Box<SourceExpression<'a>>, DataType),
 }
 
 impl<'a> Drop for SourceMessage<'a> {
@@ -36,12 +36,12 @@ pub enum SourceType<'a> {
     /// A value of this type.
     Data(DataType),
     /// `[size]TYPE`, or `[]TYPE` for an array of any size, which only parameters and abbreviations have.
-    Array(Option<SourceExpression<'a>>, DataType),
+    Array(Option<Box<SourceExpression<'a>>>, DataType),
     /// `CHAN OF message`
     Channel(SourceMessage<'a>),
     /// `[size]CHAN OF message`, or `[]CHAN OF message` for an array of any size, which only parameters and abbreviations
     /// have.
-    ChannelArray(Option<SourceExpression<'a>>, SourceMessage<'a>),
+    ChannelArray(Option<Box<SourceExpression<'a>>>, SourceMessage<'a>),
 }
 
 impl<'a> Drop for SourceType<'a> {
@@ -58,7 +58,7 @@ impl<'a> Drop for SourceType<'a> {
 /// A variable, an array or a channel where it is used: by its name, or as an element of an array.
 pub struct SourceElement<'a> {
     pub name: SourceName<'a>,
-    pub subscript: Option<SourceExpression<'a>>,
+    pub subscript: Option<Box<SourceExpression<'a>>>,
 }
 
 impl<'a> Drop for SourceElement<'a> {
@@ -114,7 +114,7 @@ pub enum SourceDeclaration<'a> {
     /// `TYPE name, name:`
     Variables(SourceType<'a>, Vec<SourceName<'a>>),
     /// `PLACE name AT expression:`
-    Placed(SourceName<'a>, SourceExpression<'a>),
+    Placed(SourceName<'a>, Box<SourceExpression<'a>>),
     /// `VAL TYPE name IS value:`; the type may be left out.
     Value(Option<SourceType<'a>>, SourceName<'a>, SourceValue<'a>),
     /// `TYPE name IS element:`
@@ -138,8 +138,8 @@ impl<'a> Drop for SourceDeclaration<'a> {
 /// `index = base FOR count`
 pub struct Replicator<'a> {
     pub index: SourceName<'a>,
-    pub base: SourceExpression<'a>,
-    pub count: SourceExpression<'a>,
+    pub base: Box<SourceExpression<'a>>,
+    pub count: Box<SourceExpression<'a>>,
 }
 
 impl<'a> Drop for Replicator<'a> {
@@ -155,7 +155,7 @@ impl<'a> Drop for Replicator<'a> {
 /// A condition of `IF`, and what is done if it is the first that is `TRUE`.
 #[cycle(source_process)]
 pub struct SourceChoice<'a> {
-    pub condition: SourceExpression<'a>,
+    pub condition: Box<SourceExpression<'a>>,
     pub process: SourceProcess<'a>,
 }
 
@@ -189,7 +189,7 @@ impl<'a> Drop for SourceGuard<'a> {
 /// An alternative of `ALT`: its guard, with a condition before `&` if there is one, and the process below it.
 #[cycle(source_process)]
 pub struct SourceAlternative<'a> {
-    pub condition: Option<SourceExpression<'a>>,
+    pub condition: Option<Box<SourceExpression<'a>>>,
     pub guard: SourceGuard<'a>,
     pub process: SourceProcess<'a>,
 }
@@ -213,7 +213,7 @@ pub enum SourceProcess<'a> {
     /// `STOP`
     Stop(TextPlace),
     /// `element := expression`
-    Assignment(SourceElement<'a>, SourceExpression<'a>),
+    Assignment(SourceElement<'a>, Box<SourceExpression<'a>>),
     /// `channel ? element`
     Input(SourceElement<'a>, SourceElement<'a>),
     /// `channel ! value`
@@ -235,7 +235,7 @@ pub enum SourceProcess<'a> {
     /// `IF`, and the choices below it.
     If(TextPlace, Vec<SourceChoice<'a>>),
     /// `WHILE condition`, and the process below it.
-    While(TextPlace, SourceExpression<'a>, Box<SourceProcess<'a>>),
+    While(TextPlace, Box<SourceExpression<'a>>, Box<SourceProcess<'a>>),
     /// Declarations, and the process after them, in which they hold.
     Declared(Vec<SourceDeclaration<'a>>, Box<SourceProcess<'a>>),
 }

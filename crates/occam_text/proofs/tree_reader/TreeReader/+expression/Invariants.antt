@@ -25,9 +25,6 @@ decreases-take_row l = 8 * l.depth + 4
 abbrev pub decreases-take_row_operand : goal.decreases-take_row_operand
 decreases-take_row_operand l = 8 * l.depth + 3
 
-abbrev pub decreases-take_boxed_operand : goal.decreases-take_boxed_operand
-decreases-take_boxed_operand l = 8 * l.depth + 3
-
 abbrev pub decreases-take_operand : goal.decreases-take_operand
 decreases-take_operand l = 8 * l.depth + 2
 

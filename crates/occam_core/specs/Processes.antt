@@ -1,16 +1,17 @@
 -- What a sequential process does: which words it leaves in its variables, what it says and hears, and how it ends.
 -- occam 2 reference manual, processes. A condition is FALSE if it is 0. A message of an INT is four bytes, the least
 -- significant first, and one of a BYTE is one byte. By which links bytes come is left open: an input takes the next.
-use Rattle.std.specs.Prelude.{◌≡◌, ℕ, zero, suc, ◌+◌, ◌-◌, ◌*◌, ◌/◌, ◌%◌, ◌^◌, ◌<◌, ◌≤◌, ◌==◌, ⊤, List, [], ◌∷◌, ◌++◌, Option, Some, None, length, take, drop, pos, int_lt, nat_le, nat_lt, if◌then◌else◌, slice_index, slice_set}
+use Rattle.std.specs.Prelude.{ℕ, zero, suc, ◌+◌, ◌-◌, ◌*◌, ◌/◌, ◌%◌, ◌^◌, ◌<◌, ◌≤◌, ◌==◌, ◌⊎◌, ⊤, List, [], ◌∷◌, ◌++◌, Option, Some, None, length, take, drop, pos, int_lt, nat_le, nat_lt, if◌then◌else◌, slice_index, slice_set}
 use Rattle.node_memory.specs.Bytes.{word_from}
 use Rattle.node_memory.specs.Words.{◌⊕◌, ◌⊖◌, signed}
 use Rattle.occam_core.specs.declared.channel.CoreChannel.TheVariants.{Link}
 use Rattle.occam_core.specs.declared.channel.MessageKind.{MessageKind}
 use Rattle.occam_core.specs.declared.channel.MessageKind.TheVariants as message
+use Rattle.occam_core.specs.declared.expression.CoreArray.{CoreArray}
 use Rattle.occam_core.specs.declared.expression.ElementKind.{ElementKind}
 use Rattle.occam_core.specs.declared.expression.ElementKind.TheVariants as kind
 use Rattle.occam_core.specs.declared.process.CoreProcess.{CoreProcess}
-use Rattle.occam_core.specs.declared.process.CoreProcess.TheVariants.{Skip, Stop, Line', Assign, AssignElement, Input, Output, Sequence', If', While', Repeat'}
+use Rattle.occam_core.specs.declared.process.CoreProcess.TheVariants.{Skip, Stop, Line', Assign, AssignElement, Copy, Input, InputElement, InputArray, Output, OutputArray, Sequence', If', While', Repeat'}
 use Rattle.occam_core.specs.Values.{value}
 
 -- a message of these bytes by a link's channel of this number
@@ -65,12 +66,38 @@ abbrev pub with_element : ElementKind → ℕ → List ℕ → ℕ → ℕ → L
 with_element kind.Word first σ k x = slice_set σ (first + k) x
 with_element kind.Byte first σ k x = with_byte_in σ (4 * first + k) (x % 2 ^ 8)
 
+-- a store with these bytes from one of its bytes on
+abbrev pub with_bytes_in : List ℕ → ℕ → List ℕ → List ℕ
+with_bytes_in σ i [] = σ
+with_bytes_in σ i (byte ∷ bytes) = with_bytes_in (with_byte_in σ i byte) (i + 1) bytes
+
+-- this number of bytes of a store, from one of them on
+abbrev pub bytes_of_store : ℕ → List ℕ → ℕ → List ℕ
+bytes_of_store zero σ i = []
+bytes_of_store (suc n) σ i = byte_in σ i ∷ bytes_of_store n σ (i + 1)
+
+-- how many bytes an element has
+abbrev pub bytes_of_element : ElementKind → ℕ
+bytes_of_element kind.Byte = 1
+bytes_of_element kind.Word = 4
+
+-- how many bytes an array has
+abbrev pub array_size : CoreArray → ℕ
+array_size array = array.length * bytes_of_element array.kind
+
 -- the next bytes that come, as a message of a channel
 abbrev pub heard : ℕ → ℕ → Situation → Situation
 heard channel count at = record at {
   coming = drop count at.coming;
   talk = at.talk ++ Heard channel (take count at.coming) ∷ [];
 }
+
+-- a message of this number of bytes, which go to the store from one of its bytes on
+abbrev pub received : ℕ → ℕ → ℕ → Situation → Course
+received channel count i at =
+    if nat_le count (length at.coming)
+    then Ended (record (heard channel count at) { store = with_bytes_in at.store i (take count at.coming) })
+    else Awaits at.talk
 
 -- how many bytes a message has
 abbrev pub bytes_in : MessageKind → ℕ
@@ -123,10 +150,24 @@ does n (AssignElement array i e) at =
     (λ k. if nat_lt k array.length
     then Ended (record at { store = with_element array.kind array.first at.store k x })
     else Erred at.talk))
+does n (Copy to from) at =
+    Ended (record at {
+      store = with_bytes_in at.store (4 * to.first) (bytes_of_store (array_size to) at.store (4 * from.first));
+    })
 does n (Input (Link c) kind v) at =
     if nat_le (bytes_in kind) (length at.coming)
     then Ended (assigned v (value_heard kind at.coming) (heard c (bytes_in kind) at))
     else Awaits at.talk
+does n (InputElement (Link c) array e) at =
+    value_then (value e at.store) at.talk
+    (λ k. if nat_lt k array.length
+    then received c (bytes_of_element array.kind) (4 * array.first + k * bytes_of_element array.kind) at
+    else Erred at.talk)
+does n (InputArray (Link c) array) at = received c (array_size array) (4 * array.first) at
+does n (OutputArray (Link c) array) at =
+    Ended (record at {
+      talk = at.talk ++ Said c (bytes_of_store (array_size array) at.store (4 * array.first)) ∷ [];
+    })
 does n (Output (Link c) kind e) at =
     value_then (value e at.store) at.talk
     (λ x. Ended (record at { talk = at.talk ++ Said c (bytes_said kind x) ∷ [] }))
@@ -142,14 +183,19 @@ does n (Repeat' v base count p a) at =
     else (let set = assigned (v + 1) k begun in if k == 0 then Ended set else rounds n v (does n a) set)))
 does n _ at = Unfinished at.talk
 
--- the processes whose code does what is said here: no PAR and no ALT, and messages of an INT or a BYTE by links alone
+-- the processes whose code does what is said here: no PAR and no ALT, messages by links alone, and copies to arrays
+-- that don't begin within the other
 abbrev pub IsSequential : CoreProcess → Type 0
 IsSequential Skip = ⊤
 IsSequential Stop = ⊤
 IsSequential (Line' place p a) = IsSequential a
 IsSequential (Assign v e) = ⊤
 IsSequential (AssignElement array i e) = ⊤
+IsSequential (Copy to from) = (to.first ≤ from.first) ⊎ (4 * from.first + array_size to ≤ 4 * to.first)
 IsSequential (Input (Link c) kind v) = (4 ≤ c) × (c < 8)
+IsSequential (InputElement (Link c) array e) = (4 ≤ c) × (c < 8)
+IsSequential (InputArray (Link c) array) = (4 ≤ c) × (c < 8)
+IsSequential (OutputArray (Link c) array) = c < 4
 IsSequential (Output (Link c) kind e) = c < 4
 IsSequential (Sequence' p a q b) = IsSequential a × IsSequential b
 IsSequential (If' e p a q b) = IsSequential a × IsSequential b
