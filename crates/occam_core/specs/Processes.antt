@@ -14,7 +14,7 @@ use Rattle.occam_core.specs.declared.process.CoreProcess.{CoreProcess}
 use Rattle.occam_core.specs.declared.process.CoreProcess.TheVariants.{Skip, Stop, Line', Assign, AssignElement, Copy, Input, InputElement, InputArray, Output, OutputArray, Sequence', If', While', Repeat'}
 use Rattle.occam_core.specs.Values.{value}
 
--- a message of these bytes by a link's channel of this number
+-- a message of these bytes by the channel of this number
 pub data Exchange : Type 0 where
   Said : (channel : ℕ) (bytes : List ℕ) → Exchange
   Heard : (channel : ℕ) (bytes : List ℕ) → Exchange

@@ -1,7 +1,9 @@
--- What any process says and hears, PAR and ALT included: its traces, as in CSP.
--- occam 2 reference manual, processes, parallel, alternation: a message passes when both processes are ready for it; a
--- PAR ends when all its components have ended; an ALT waits for an open guard, and is an error if no guard is open.
--- Nothing is said of waiting for ever: a process in a deadlock has a trace, and no longer one that begins with it.
+-- What any process says (`!`) and hears (`?`), PAR and ALT included: its traces, as in CSP.
+-- occam 2 reference manual, processes, parallel, alternation: a PAR ends when all its components have ended; an ALT
+-- waits until an open guard is ready, and is an error if no guard is open. That an error halts all components, and
+-- which guards an ALT may take, are choices of ours.
+-- A message is in a trace once it is whole. Whether a process may come to a deadlock can't be seen in its traces, nor
+-- which of several inputs was ready first. Nothing is meant of components that may not be used together.
 use Rattle.std.specs.Prelude.{◌≡◌, ℕ, zero, suc, ◌+◌, ◌*◌, ◌^◌, ◌<◌, ◌≤◌, ◌⊎◌, ⊤, List, [], ◌∷◌, ◌++◌, true, false, Option, Some, None, length, pos, int_lt, nat_lt, if◌then◌else◌, ◌==◌, slice_index, slice_set}
 use Rattle.node_memory.specs.Words.{◌⊕◌, ◌⊖◌, signed}
 use Rattle.occam_core.specs.declared.channel.CoreChannel.{CoreChannel}
@@ -15,13 +17,14 @@ use Rattle.occam_core.specs.declared.process.CoreProcess.TheVariants.{Skip, Stop
 use Rattle.occam_core.specs.Values.{of_one, of_two, value}
 use Rattle.occam_core.specs.Processes.{Exchange, Said, Heard, byte_in, with_element, with_bytes_in, bytes_of_store, bytes_of_element, array_size, bytes_in, value_heard, bytes_said}
 
--- where a process is after a trace: it has ended with these words in its variables, it has erred, or it is under way
+-- where a process is after a trace: it has ended with these words in its variables, it has erred, or it may still be
+-- under way. The words of channels count for nothing
 pub data TraceOutcome : Type 0 where
   Complete : (store : List ℕ) → TraceOutcome
   Broken : TraceOutcome
   Partial : TraceOutcome
 
--- which traces a process has from a store on
+-- from this store on this was said and heard, and then the process is there
 abbrev pub Traces : Type 1
 Traces = List ℕ → List Exchange → TraceOutcome → Type 0
 
@@ -52,7 +55,7 @@ WithValue (Some x) t e go = go x
 abbrev pub element_number : CoreArray → ℕ → Option ℕ
 element_number array k = if nat_lt k array.length then Some k else None
 
--- the number of a channel: those of links are below 8
+-- the number of a channel: those of links are below 8, and a variable that is a channel comes after them
 abbrev pub channel_number : CoreChannel → List ℕ → Option ℕ
 channel_number (channel.Link c) σ = Some c
 channel_number (channel.Inside v) σ = Some (8 + v)
@@ -89,7 +92,7 @@ Consecutive first second σ t e =
     (IsUnended e × first σ t e)
     ⊎ ((s : List Exchange) × (u : List Exchange) × (ρ : List ℕ) × (t ≡ s ++ u) × first σ s (Complete ρ) × second ρ u e)
 
--- at most this number of turns of a loop, as long as its condition isn't 0
+-- a loop as long as its condition isn't 0, which is cut off before its condition after this number of turns
 abbrev pub Turns : ℕ → (List ℕ → Option ℕ) → Traces → Traces
 Turns zero test body σ t e = IsCutAt t e
 Turns (suc n) test body σ t e =
@@ -111,8 +114,8 @@ IndexTurns (suc n) v body σ t e =
     × IndexTurns n v body (slice_set τ v (slice_index ρ v ⊕ 1)) u f))
     σ t e
 
--- two talks go on side by side: what one says by a channel within the node while the other hears it is a message
--- between them, and in neither's talk with others; all else is in it, in its order
+-- two talks go on side by side. What one says by a channel within the node may be what the other hears: then it is in
+-- neither's talk with others. Or it stays in it, for a third process. All else is in it, in its order
 pub data Merges : List Exchange → List Exchange → List Exchange → Type 0 where
   both_end : Merges [] [] []
   first_goes : (x : Exchange) (a b t : List Exchange) → Merges a b t → Merges (x ∷ a) b (x ∷ t)
@@ -122,7 +125,8 @@ pub data Merges : List Exchange → List Exchange → List Exchange → Type 0 w
   second_says : (n : ℕ) (bytes : List ℕ) (a b t : List Exchange) → 8 ≤ n → Merges a b t
       → Merges (Heard n bytes ∷ a) (Said n bytes ∷ b) t
 
--- a store after two processes that began with the same one: each byte is what the one made of it that changed it
+-- a store after two processes that began with the same one: each byte is what the one made of it that changed it, since
+-- no byte may be changed by both
 abbrev pub IsOfBoth : (begun first second both : List ℕ) → Type 0
 IsOfBoth begun first second both =
     (length both ≡ length begun) × ((v : ℕ) → slice_index both v < 2 ^ 32)
@@ -166,7 +170,8 @@ Chooses own others g first second σ t e =
     (λ n. ((x ≡ 0) × (n ≡ 0) × IsErrorAt t e) ⊎ ((1 ≤ x) × first σ t e)
     ⊎ ((1 ≤ n) × LetsOthers g x × second σ t e)))
 
--- the traces of a process where each loop in it makes at most n turns
+-- the traces of a process where each loop in it makes at most n turns: its traces are those for all n. An error in the
+-- input of an open guard counts immediately, since a trace doesn't show whether a sender is there
 abbrev pub Runs : ℕ → CoreProcess → Traces
 Runs n Skip σ t e = IsEndAt σ t e
 Runs n Stop σ t e = IsErrorAt t e
@@ -207,6 +212,6 @@ IsAtLinks [] = ⊤
 IsAtLinks (Said n bytes ∷ t) = (n < 8) × IsAtLinks t
 IsAtLinks (Heard n bytes ∷ t) = (n < 8) × IsAtLinks t
 
--- what a whole program says and hears
+-- what a whole program says and hears, from a store on that begins with the words of its tables
 abbrev pub ProgramRuns : ℕ → CoreProcess → Traces
 ProgramRuns n p σ t e = Runs n p σ t e × IsAtLinks t
