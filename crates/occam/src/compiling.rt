@@ -90,7 +90,7 @@ pub(crate) fn program_of(alloc: Global, core: &CoreProgram) -> Result<OccamProgr
 /// The core of a text after these declarations, in which nothing is wrong.
 pub(crate) fn checked_core<'a>(
     alloc: Global,
-    prelude: &[SourceDeclaration<'a>],
+    prelude: &[Box<SourceDeclaration<'a>>],
     tree: &SourceProcess<'a>,
 ) -> Result<CoreProgram<'a>, OccamFault<'a>> {
     let core = core_of(alloc, prelude, tree)?;
@@ -103,7 +103,7 @@ pub(crate) fn checked_core<'a>(
 /// The declarations that a process begins with.
 pub(crate) fn declarations_of<'b, 'a>(
     process: &'b SourceProcess<'a>,
-) -> &'b [SourceDeclaration<'a>] {
+) -> &'b [Box<SourceDeclaration<'a>>] {
     match process {
         SourceProcess::Declared(declarations, _) => declarations.as_slice(),
         _ => &[],

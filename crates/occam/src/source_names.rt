@@ -58,7 +58,7 @@ fn without_line(name: SourceName<'_>) -> SourceName<'_> {
 
 impl<'a> SourceNames<'a> {
     /// What is known after declarations that are before each text, and need no use.
-    pub fn after(alloc: Global, prelude: &[SourceDeclaration<'a>]) -> SourceNames<'a> {
+    pub fn after(alloc: Global, prelude: &[Box<SourceDeclaration<'a>>]) -> SourceNames<'a> {
         let mut names = SourceNames {
             names: Vec::new(alloc),
             meant: HashMap::new(alloc),
@@ -68,7 +68,7 @@ impl<'a> SourceNames<'a> {
             lacks_memory: false,
         };
         for declaration in prelude {
-            if let SourceDeclaration::Procedure(procedure) = declaration {
+            if let SourceDeclaration::Procedure(procedure) = &**declaration {
                 names.know_procedure(without_line(procedure.name), true);
             }
         }

@@ -103,7 +103,7 @@ impl<'a, 'b> Namer<'a, 'b> {
     pub fn alternation(
         &mut self,
         place: TextPlace,
-        alternatives: &'b [SourceAlternative<'a>],
+        alternatives: &'b [Box<SourceAlternative<'a>>],
         depth: u8,
     ) -> CoreProcess {
         if alternatives.len() > MOST_COMPONENTS {

@@ -110,7 +110,7 @@ pub struct CoreProgram<'a> {
 /// Source: occam 2 reference manual, scope, data types and expressions.
 pub fn core_of<'a>(
     alloc: Global,
-    prelude: &[SourceDeclaration<'a>],
+    prelude: &[Box<SourceDeclaration<'a>>],
     program: &SourceProcess<'a>,
 ) -> Result<CoreProgram<'a>, OccamNamesFault<'a>>
     ensures mistakes { IfErr result HasMistakes }
@@ -129,7 +129,7 @@ pub fn core_of<'a>(
 // The core of a program whose names are found with this.
 fn core_with<'a, 'b>(
     mut namer: Namer<'a, 'b>,
-    prelude: &'b [SourceDeclaration<'a>],
+    prelude: &'b [Box<SourceDeclaration<'a>>],
     program: &'b SourceProcess<'a>,
 ) -> Result<CoreProgram<'a>, OccamNamesFault<'a>>
     ensures mistakes { IfErr result HasMistakes }

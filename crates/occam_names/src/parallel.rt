@@ -29,7 +29,7 @@ impl<'a, 'b> Namer<'a, 'b> {
     pub fn parallel(
         &mut self,
         place: TextPlace,
-        processes: &'b [SourceProcess<'a>],
+        processes: &'b [Box<SourceProcess<'a>>],
         depth: u8,
     ) -> CoreProcess {
         if processes.len() > MOST_COMPONENTS {

@@ -56,7 +56,7 @@ impl<'a, 'b> Namer<'a, 'b> {
     /// A program after declarations that are known everywhere in it.
     pub fn program(
         &mut self,
-        prelude: &'b [SourceDeclaration<'a>],
+        prelude: &'b [Box<SourceDeclaration<'a>>],
         program: &'b SourceProcess<'a>,
     ) -> CoreProcess {
         let mut row = Vec::new(self.notes.alloc);
@@ -138,7 +138,7 @@ impl<'a, 'b> Namer<'a, 'b> {
     #[cycle(process)]
     fn declared(
         &mut self,
-        declarations: &'b [SourceDeclaration<'a>],
+        declarations: &'b [Box<SourceDeclaration<'a>>],
         process: &'b SourceProcess<'a>,
         is_outermost: bool,
         depth: u8,
@@ -164,7 +164,7 @@ impl<'a, 'b> Namer<'a, 'b> {
 
     // `SEQ`
     #[cycle(process)]
-    fn sequence(&mut self, processes: &'b [SourceProcess<'a>], depth: u8) -> CoreProcess {
+    fn sequence(&mut self, processes: &'b [Box<SourceProcess<'a>>], depth: u8) -> CoreProcess {
         let mut row = Vec::new(self.notes.alloc);
         for process in processes {
             let process = self.process(process, false, depth);

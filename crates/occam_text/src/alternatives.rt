@@ -25,7 +25,7 @@ impl<'a, 'b> TreeReader<'a, 'b> {
         blanks: u32,
         construct: Construct,
         depth: u8,
-    ) -> Result<Vec<SourceAlternative<'a>>, ReadStop> {
+    ) -> Result<Vec<Box<SourceAlternative<'a>>>, ReadStop> {
         self.find_no_guard_beside(blanks, construct)?;
         let mut alternatives = Vec::new(self.alloc);
         for _ in 0..=self.left() {
@@ -55,7 +55,7 @@ impl<'a, 'b> TreeReader<'a, 'b> {
         }
         let alternative = self.take_alternative(blanks, depth)?;
         self.find_no_second_alternative(blanks, construct)?;
-        Ok(Box::new(self.alloc, alternative)?)
+        Ok(alternative)
     }
 
     // A guard, and the process below it.
@@ -64,7 +64,7 @@ impl<'a, 'b> TreeReader<'a, 'b> {
         &mut self,
         blanks: u32,
         depth: u8,
-    ) -> Result<SourceAlternative<'a>, ReadStop> {
+    ) -> Result<Box<SourceAlternative<'a>>, ReadStop> {
         let construct = Construct {
             kind: ConstructKind::Guard,
             line: self.place().line,
@@ -73,11 +73,12 @@ impl<'a, 'b> TreeReader<'a, 'b> {
         let condition = self.take_guard_condition()?;
         let guard = self.take_guard(condition.is_some())?;
         let process = self.take_body(blanks.saturating_add(STEP), construct, depth)?;
-        Ok(SourceAlternative {
+        let alternative = SourceAlternative {
             condition,
             guard,
             process,
-        })
+        };
+        Ok(Box::new(self.alloc, alternative)?)
     }
 
     // The condition before `&`, if there is one.

@@ -14,6 +14,7 @@ use occam_tree::{
     DataType, DyadicSign, SourceDeclaration, SourceElement, SourceExpression, SourceMessage,
     SourceName, SourceType, TextPlace,
 };
+use std::alloc::Global;
 
 // Where the size of an array is missing, and what is said of it.
 #[derive(Clone, Copy)]
@@ -22,12 +23,23 @@ struct MissingSize {
     sentence: &'static str,
 }
 
+/// A declaration in memory of its own.
+///
+/// # Errors
+/// There is no memory for it.
+pub fn boxed_declaration<'a>(
+    alloc: Global,
+    declaration: SourceDeclaration<'a>,
+) -> Result<Box<SourceDeclaration<'a>>, ReadStop> {
+    Ok(Box::new(alloc, declaration)?)
+}
+
 impl<'a, 'b> TreeReader<'a, 'b> {
     /// The declaration that is here, but for a procedure, and the end of its line.
     ///
     /// # Errors
     /// Faults 5, 6, 11 and 13, and those of an expression.
-    pub fn take_declaration(&mut self) -> Result<SourceDeclaration<'a>, ReadStop> {
+    pub fn take_declaration(&mut self) -> Result<Box<SourceDeclaration<'a>>, ReadStop> {
         let declaration = match self.kind() {
             TokenKind::Place => self.take_placement()?,
             TokenKind::Val => self.take_named_value()?,
@@ -38,7 +50,7 @@ impl<'a, 'b> TreeReader<'a, 'b> {
     }
 
     // `VAL TYPE name IS value`; the type may be left out.
-    fn take_named_value(&mut self) -> Result<SourceDeclaration<'a>, ReadStop> {
+    fn take_named_value(&mut self) -> Result<Box<SourceDeclaration<'a>>, ReadStop> {
         self.take();
         let value_type = match self.kind() {
             TokenKind::Name => None,
@@ -46,7 +58,10 @@ impl<'a, 'b> TreeReader<'a, 'b> {
         };
         let name = self.take_value_name()?;
         let value = self.take_value(ExpectedPart::OneOperatorInDeclaration)?;
-        Ok(SourceDeclaration::Value(value_type, name, value))
+        boxed_declaration(
+            self.alloc,
+            SourceDeclaration::Value(value_type, name, value),
+        )
     }
 
     // The name of a value, and `IS`.
@@ -66,7 +81,7 @@ impl<'a, 'b> TreeReader<'a, 'b> {
     }
 
     // `TYPE name, name` or `TYPE name IS element`
-    fn take_variables(&mut self) -> Result<SourceDeclaration<'a>, ReadStop> {
+    fn take_variables(&mut self) -> Result<Box<SourceDeclaration<'a>>, ReadStop> {
         let missing = self.missing_size();
         let variable_type = self.take_type()?;
         let name = self.take_declared_name()?;
@@ -74,12 +89,18 @@ impl<'a, 'b> TreeReader<'a, 'b> {
             TokenKind::Is => {
                 self.take();
                 let element = self.take_renamed_element()?;
-                Ok(SourceDeclaration::Renamed(variable_type, name, element))
+                boxed_declaration(
+                    self.alloc,
+                    SourceDeclaration::Renamed(variable_type, name, element),
+                )
             }
             _ => {
                 let names = self.take_names(name, false)?;
                 self.find_names_end(missing)?;
-                Ok(SourceDeclaration::Variables(variable_type, names))
+                boxed_declaration(
+                    self.alloc,
+                    SourceDeclaration::Variables(variable_type, names),
+                )
             }
         }
     }
@@ -121,7 +142,7 @@ impl<'a, 'b> TreeReader<'a, 'b> {
     }
 
     // `PLACE name AT expression`
-    fn take_placement(&mut self) -> Result<SourceDeclaration<'a>, ReadStop> {
+    fn take_placement(&mut self) -> Result<Box<SourceDeclaration<'a>>, ReadStop> {
         self.take();
         let name = self.take_name(ExpectedPart::DeclaredName)?;
         match self.kind() {
@@ -132,7 +153,7 @@ impl<'a, 'b> TreeReader<'a, 'b> {
             _ => return Err(self.wrong(ExpectedPart::PlaceAt)),
         }
         let expression = self.take_expression()?;
-        Ok(SourceDeclaration::Placed(name, expression))
+        boxed_declaration(self.alloc, SourceDeclaration::Placed(name, expression))
     }
 
     /// The type of variables, of arrays or of channels.

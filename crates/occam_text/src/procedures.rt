@@ -1,6 +1,7 @@
 //! Reads procedures.
 
 use crate::constructs::{Construct, ConstructKind};
+use crate::declarations::boxed_declaration;
 use crate::hints::{
     BRACKETS_FIRST, COLON_BELOW_PROCEDURE, COMMAS_BETWEEN, GrammarHint, NO_PARAMETERS,
     PROCESS_THAT_DOES_NOTHING, TYPED_FORMALS,
@@ -24,7 +25,7 @@ impl<'a, 'b> TreeReader<'a, 'b> {
         &mut self,
         blanks: u32,
         depth: u8,
-    ) -> Result<SourceDeclaration<'a>, ReadStop> {
+    ) -> Result<Box<SourceDeclaration<'a>>, ReadStop> {
         let line = self.place().line;
         let Some(inner) = depth.checked_sub(1) else {
             return Err(self.too_deep());
@@ -39,7 +40,8 @@ impl<'a, 'b> TreeReader<'a, 'b> {
             formals,
             process,
         };
-        Ok(SourceDeclaration::Procedure(Box::new(self.alloc, procedure)?))
+        let procedure = Box::new(self.alloc, procedure)?;
+        boxed_declaration(self.alloc, SourceDeclaration::Procedure(procedure))
     }
 
     // The process below the heading of a procedure that begins with as many blanks, in the line of this number.
@@ -49,7 +51,7 @@ impl<'a, 'b> TreeReader<'a, 'b> {
         blanks: u32,
         line: u32,
         depth: u8,
-    ) -> Result<SourceProcess<'a>, ReadStop> {
+    ) -> Result<Box<SourceProcess<'a>>, ReadStop> {
         let construct = Construct {
             kind: ConstructKind::Procedure,
             line,

@@ -8,6 +8,7 @@ use crate::statements::is_declaration;
 use crate::tree_reader::TreeReader;
 use crate::words::TokenKind;
 use occam_tree::{SourceChoice, SourceProcess, TextPlace};
+use std::alloc::Global;
 
 /// How far a component is further in than its construct.
 pub const STEP: u32 = 2;
@@ -21,41 +22,34 @@ impl<'a, 'b> TreeReader<'a, 'b> {
         blanks: u32,
         construct: Option<Construct>,
         depth: u8,
-    ) -> Result<SourceProcess<'a>, ReadStop> {
+    ) -> Result<Box<SourceProcess<'a>>, ReadStop> {
         if !is_declaration(self.second_kind()) {
             return self.take_statement(blanks, depth);
         }
         let declarations = self.take_declarations(blanks, construct, depth)?;
-        let process = self.take_boxed_statement(blanks, depth)?;
-        Ok(SourceProcess::Declared(declarations, process))
-    }
-
-    // A process without declarations, in memory of its own.
-    #[cycle(process)]
-    fn take_boxed_statement(
-        &mut self,
-        blanks: u32,
-        depth: u8,
-    ) -> Result<Box<SourceProcess<'a>>, ReadStop> {
         let process = self.take_statement(blanks, depth)?;
-        Ok(Box::new(self.alloc, process)?)
+        boxed_process(self.alloc, SourceProcess::Declared(declarations, process))
     }
 
     // A process without declarations.
     #[cycle(process)]
-    fn take_statement(&mut self, blanks: u32, depth: u8) -> Result<SourceProcess<'a>, ReadStop> {
+    fn take_statement(
+        &mut self,
+        blanks: u32,
+        depth: u8,
+    ) -> Result<Box<SourceProcess<'a>>, ReadStop> {
         self.take();
         let place = self.place();
         match self.kind() {
             TokenKind::Skip => {
                 self.take();
                 self.take_line_end(ExpectedPart::LineEnd)?;
-                Ok(SourceProcess::Skip(place))
+                boxed_process(self.alloc, SourceProcess::Skip(place))
             }
             TokenKind::Stop => {
                 self.take();
                 self.take_line_end(ExpectedPart::LineEnd)?;
-                Ok(SourceProcess::Stop(place))
+                boxed_process(self.alloc, SourceProcess::Stop(place))
             }
             TokenKind::Name => self.take_action(),
             TokenKind::Seq
@@ -74,7 +68,11 @@ impl<'a, 'b> TreeReader<'a, 'b> {
 
     // A construct and its components, in which `depth` constructs may be in one another.
     #[cycle(process)]
-    fn take_construct(&mut self, blanks: u32, depth: u8) -> Result<SourceProcess<'a>, ReadStop> {
+    fn take_construct(
+        &mut self,
+        blanks: u32,
+        depth: u8,
+    ) -> Result<Box<SourceProcess<'a>>, ReadStop> {
         let first = self.first();
         self.take();
         let below = blanks.saturating_add(STEP);
@@ -102,17 +100,20 @@ impl<'a, 'b> TreeReader<'a, 'b> {
         blanks: u32,
         place: TextPlace,
         depth: u8,
-    ) -> Result<SourceProcess<'a>, ReadStop> {
+    ) -> Result<Box<SourceProcess<'a>>, ReadStop> {
         let construct = construct_at(ConstructKind::Sequence, place);
         if let TokenKind::Name = self.kind() {
             self.find_replicator(LINES_BELOW)?;
             let replicator = self.take_replicator()?;
-            let process = self.take_boxed_body(blanks, construct, depth)?;
-            return Ok(SourceProcess::Repeated(place, replicator, process));
+            let process = self.take_body(blanks, construct, depth)?;
+            return boxed_process(
+                self.alloc,
+                SourceProcess::Repeated(place, replicator, process),
+            );
         }
         self.take_line_end(ExpectedPart::LineEndOrReplicator)?;
         let components = self.take_components(blanks, construct, depth)?;
-        Ok(SourceProcess::Sequence(place, components))
+        boxed_process(self.alloc, SourceProcess::Sequence(place, components))
     }
 
     // The same of `PAR`.
@@ -122,17 +123,20 @@ impl<'a, 'b> TreeReader<'a, 'b> {
         blanks: u32,
         place: TextPlace,
         depth: u8,
-    ) -> Result<SourceProcess<'a>, ReadStop> {
+    ) -> Result<Box<SourceProcess<'a>>, ReadStop> {
         let construct = construct_at(ConstructKind::Parallel, place);
         if let TokenKind::Name = self.kind() {
             self.find_replicator(LINES_BELOW)?;
             let replicator = self.take_replicator()?;
-            let process = self.take_boxed_body(blanks, construct, depth)?;
-            return Ok(SourceProcess::ReplicatedParallel(place, replicator, process));
+            let process = self.take_body(blanks, construct, depth)?;
+            return boxed_process(
+                self.alloc,
+                SourceProcess::ReplicatedParallel(place, replicator, process),
+            );
         }
         self.take_line_end(ExpectedPart::LineEndOrReplicator)?;
         let components = self.take_components(blanks, construct, depth)?;
-        Ok(SourceProcess::Parallel(place, components))
+        boxed_process(self.alloc, SourceProcess::Parallel(place, components))
     }
 
     // The same of `ALT` or `PRI ALT`.
@@ -142,17 +146,20 @@ impl<'a, 'b> TreeReader<'a, 'b> {
         blanks: u32,
         place: TextPlace,
         depth: u8,
-    ) -> Result<SourceProcess<'a>, ReadStop> {
+    ) -> Result<Box<SourceProcess<'a>>, ReadStop> {
         let construct = construct_at(ConstructKind::Alternation, place);
         if let TokenKind::Name = self.kind() {
             self.find_replicator(GUARDS_BELOW)?;
             let replicator = self.take_replicator()?;
             let alternative = self.take_single_alternative(blanks, construct, depth)?;
-            return Ok(SourceProcess::ReplicatedAlternation(place, replicator, alternative));
+            return boxed_process(
+                self.alloc,
+                SourceProcess::ReplicatedAlternation(place, replicator, alternative),
+            );
         }
         self.take_line_end(ExpectedPart::LineEndOrReplicator)?;
         let alternatives = self.take_alternatives(blanks, construct, depth)?;
-        Ok(SourceProcess::Alternation(place, alternatives))
+        boxed_process(self.alloc, SourceProcess::Alternation(place, alternatives))
     }
 
     // What is after `IF`, which is at this place. Its choices begin with as many blanks.
@@ -162,10 +169,10 @@ impl<'a, 'b> TreeReader<'a, 'b> {
         blanks: u32,
         place: TextPlace,
         depth: u8,
-    ) -> Result<SourceProcess<'a>, ReadStop> {
+    ) -> Result<Box<SourceProcess<'a>>, ReadStop> {
         self.take_if_end()?;
         let choices = self.take_choices(blanks, construct_at(ConstructKind::If, place), depth)?;
-        Ok(SourceProcess::If(place, choices))
+        boxed_process(self.alloc, SourceProcess::If(place, choices))
     }
 
     // What is after `WHILE`, which is at this place. Its process begins with as many blanks.
@@ -175,11 +182,11 @@ impl<'a, 'b> TreeReader<'a, 'b> {
         blanks: u32,
         place: TextPlace,
         depth: u8,
-    ) -> Result<SourceProcess<'a>, ReadStop> {
+    ) -> Result<Box<SourceProcess<'a>>, ReadStop> {
         let construct = construct_at(ConstructKind::While, place);
         let condition = self.take_expression_line()?;
-        let process = self.take_boxed_body(blanks, construct, depth)?;
-        Ok(SourceProcess::While(place, condition, process))
+        let process = self.take_body(blanks, construct, depth)?;
+        boxed_process(self.alloc, SourceProcess::While(place, condition, process))
     }
 
     // The processes below `SEQ` or `PAR`.
@@ -189,7 +196,7 @@ impl<'a, 'b> TreeReader<'a, 'b> {
         blanks: u32,
         construct: Construct,
         depth: u8,
-    ) -> Result<Vec<SourceProcess<'a>>, ReadStop> {
+    ) -> Result<Vec<Box<SourceProcess<'a>>>, ReadStop> {
         let mut components = Vec::new(self.alloc);
         for _ in 0..=self.left() {
             if !self.is_at_component(blanks, Some(construct))? {
@@ -242,7 +249,7 @@ impl<'a, 'b> TreeReader<'a, 'b> {
         blanks: u32,
         construct: Construct,
         depth: u8,
-    ) -> Result<SourceProcess<'a>, ReadStop> {
+    ) -> Result<Box<SourceProcess<'a>>, ReadStop> {
         if !self.is_at_component(blanks, Some(construct))? {
             return Err(self.without_body(blanks, construct));
         }
@@ -250,18 +257,17 @@ impl<'a, 'b> TreeReader<'a, 'b> {
         self.find_no_second_process(blanks, construct)?;
         Ok(process)
     }
+}
 
-    // The same in memory of its own.
-    #[cycle(process)]
-    fn take_boxed_body(
-        &mut self,
-        blanks: u32,
-        construct: Construct,
-        depth: u8,
-    ) -> Result<Box<SourceProcess<'a>>, ReadStop> {
-        let process = self.take_body(blanks, construct, depth)?;
-        Ok(Box::new(self.alloc, process)?)
-    }
+/// A process in memory of its own.
+///
+/// # Errors
+/// There is no memory for it.
+pub fn boxed_process<'a>(
+    alloc: Global,
+    process: SourceProcess<'a>,
+) -> Result<Box<SourceProcess<'a>>, ReadStop> {
+    Ok(Box::new(alloc, process)?)
 }
 
 // A construct whose keyword is at this place.

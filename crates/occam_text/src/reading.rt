@@ -23,7 +23,7 @@ const MOST_LINES: usize = 65_535;
 pub fn read_occam<'a>(
     alloc: Global,
     text: &'a [u8],
-) -> Result<SourceProcess<'a>, OccamTextFault<'a>>
+) -> Result<Box<SourceProcess<'a>>, OccamTextFault<'a>>
     ensures short { IfOk result (λ _. length text.now ≤ 1_000_000) }
 {
     if text.len() > MOST_BYTES {

@@ -8,6 +8,7 @@ use crate::hints::{
 };
 use crate::mistakes::{ExpectedPart, MetPart, ReadStop};
 use crate::omissions::OmittedPart;
+use crate::processes::boxed_process;
 use crate::tree_reader::TreeReader;
 use crate::words::TokenKind;
 use line_mistakes::ShownWord;
@@ -33,7 +34,7 @@ impl<'a, 'b> TreeReader<'a, 'b> {
     ///
     /// # Errors
     /// Faults 4, 5, 6, 11 and 12, and those of an expression.
-    pub fn take_action(&mut self) -> Result<SourceProcess<'a>, ReadStop> {
+    pub fn take_action(&mut self) -> Result<Box<SourceProcess<'a>>, ReadStop> {
         match self.second_kind() {
             TokenKind::Assign | TokenKind::Input | TokenKind::Output | TokenKind::OpenBracket => {
                 self.take_element_action()
@@ -44,7 +45,7 @@ impl<'a, 'b> TreeReader<'a, 'b> {
     }
 
     // What is done with a variable, a channel or an element.
-    fn take_element_action(&mut self) -> Result<SourceProcess<'a>, ReadStop> {
+    fn take_element_action(&mut self) -> Result<Box<SourceProcess<'a>>, ReadStop> {
         let element = self.take_element(ExpectedPart::Process)?;
         match self.kind() {
             TokenKind::Input => self.take_input(element),
@@ -55,29 +56,35 @@ impl<'a, 'b> TreeReader<'a, 'b> {
     }
 
     // What is after this channel: `? element`.
-    fn take_input(&mut self, channel: SourceElement<'a>) -> Result<SourceProcess<'a>, ReadStop> {
+    fn take_input(
+        &mut self,
+        channel: SourceElement<'a>,
+    ) -> Result<Box<SourceProcess<'a>>, ReadStop> {
         self.take();
         let element = self.take_element(ExpectedPart::Variable)?;
         self.take_message_end(ExpectedPart::LineEnd)?;
-        Ok(SourceProcess::Input(channel, element))
+        boxed_process(self.alloc, SourceProcess::Input(channel, element))
     }
 
     // What is after this channel: `! value`.
-    fn take_output(&mut self, channel: SourceElement<'a>) -> Result<SourceProcess<'a>, ReadStop> {
+    fn take_output(
+        &mut self,
+        channel: SourceElement<'a>,
+    ) -> Result<Box<SourceProcess<'a>>, ReadStop> {
         self.take();
         let value = self.take_value(ExpectedPart::OneOperator)?;
         self.take_message_end(ExpectedPart::LineEndOrOperator)?;
-        Ok(SourceProcess::Output(channel, value))
+        boxed_process(self.alloc, SourceProcess::Output(channel, value))
     }
 
     // What is after this element: `:= expression`.
     fn take_assignment(
         &mut self,
         element: SourceElement<'a>,
-    ) -> Result<SourceProcess<'a>, ReadStop> {
+    ) -> Result<Box<SourceProcess<'a>>, ReadStop> {
         self.take();
         let expression = self.take_expression_line()?;
-        Ok(SourceProcess::Assignment(element, expression))
+        boxed_process(self.alloc, SourceProcess::Assignment(element, expression))
     }
 
     // The mistake that nothing is done with an element.
@@ -246,7 +253,7 @@ impl<'a, 'b> TreeReader<'a, 'b> {
         blanks: u32,
         construct: Option<Construct>,
         depth: u8,
-    ) -> Result<Vec<SourceDeclaration<'a>>, ReadStop> {
+    ) -> Result<Vec<Box<SourceDeclaration<'a>>>, ReadStop> {
         let mut declarations = Vec::new(self.alloc);
         for _ in 0..=self.left() {
             self.take();

@@ -64,7 +64,7 @@ impl<'a, 'b> TreeReader<'a, 'b> {
     ///
     /// # Errors
     /// Those of a process, and fault 15 if another one follows it.
-    pub fn take_text(&mut self) -> Result<SourceProcess<'a>, ReadStop> {
+    pub fn take_text(&mut self) -> Result<Box<SourceProcess<'a>>, ReadStop> {
         if !self.is_at_component(0, None)? {
             return Err(self.wrong(ExpectedPart::Process));
         }

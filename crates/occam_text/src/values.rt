@@ -4,6 +4,7 @@ use crate::hints::{COMMAS_BETWEEN, FILLED_TABLE, GrammarHint};
 use crate::keywords::construct_in_small_letters;
 use crate::mistakes::{ExpectedPart, MetPart, ReadStop};
 use crate::omissions::OmittedPart;
+use crate::processes::boxed_process;
 use crate::strings::string_bytes;
 use crate::tree_reader::{MOST_NESTING, TreeReader};
 use crate::words::TokenKind;
@@ -116,7 +117,7 @@ impl<'a, 'b> TreeReader<'a, 'b> {
     ///
     /// # Errors
     /// Faults 4, 10 and 11, and those of an expression.
-    pub fn take_instance(&mut self) -> Result<SourceProcess<'a>, ReadStop> {
+    pub fn take_instance(&mut self) -> Result<Box<SourceProcess<'a>>, ReadStop> {
         self.find_no_construct()?;
         let name = self.take_name(ExpectedPart::Process)?;
         self.take();
@@ -125,7 +126,7 @@ impl<'a, 'b> TreeReader<'a, 'b> {
             _ => self.take_actuals()?,
         };
         self.take_instance_end()?;
-        Ok(SourceProcess::Instance(name, values))
+        boxed_process(self.alloc, SourceProcess::Instance(name, values))
     }
 
     // What is given to a procedure: a value or more, with commas between them.

@@ -94,7 +94,7 @@ impl<'a> Drop for SourceFormals<'a> {
 pub struct SourceProcedure<'a> {
     pub name: SourceName<'a>,
     pub formals: Vec<SourceFormals<'a>>,
-    pub process: SourceProcess<'a>,
+    pub process: Box<SourceProcess<'a>>,
 }
 
 impl<'a> Drop for SourceProcedure<'a> {
@@ -156,7 +156,7 @@ impl<'a> Drop for Replicator<'a> {
 #[cycle(source_process)]
 pub struct SourceChoice<'a> {
     pub condition: Box<SourceExpression<'a>>,
-    pub process: SourceProcess<'a>,
+    pub process: Box<SourceProcess<'a>>,
 }
 
 impl<'a> Drop for SourceChoice<'a> {
@@ -191,7 +191,7 @@ impl<'a> Drop for SourceGuard<'a> {
 pub struct SourceAlternative<'a> {
     pub condition: Option<Box<SourceExpression<'a>>>,
     pub guard: SourceGuard<'a>,
-    pub process: SourceProcess<'a>,
+    pub process: Box<SourceProcess<'a>>,
 }
 
 impl<'a> Drop for SourceAlternative<'a> {
@@ -221,15 +221,15 @@ pub enum SourceProcess<'a> {
     /// `name (value, value)`
     Instance(SourceName<'a>, Vec<SourceValue<'a>>),
     /// `SEQ`, and the processes below it.
-    Sequence(TextPlace, Vec<SourceProcess<'a>>),
+    Sequence(TextPlace, Vec<Box<SourceProcess<'a>>>),
     /// `SEQ index = base FOR count`, and the process below it.
     Repeated(TextPlace, Replicator<'a>, Box<SourceProcess<'a>>),
     /// `PAR`, and the processes below it.
-    Parallel(TextPlace, Vec<SourceProcess<'a>>),
+    Parallel(TextPlace, Vec<Box<SourceProcess<'a>>>),
     /// `PAR index = base FOR count`, and the process below it.
     ReplicatedParallel(TextPlace, Replicator<'a>, Box<SourceProcess<'a>>),
     /// `ALT` or `PRI ALT`, and the alternatives below it.
-    Alternation(TextPlace, Vec<SourceAlternative<'a>>),
+    Alternation(TextPlace, Vec<Box<SourceAlternative<'a>>>),
     /// `ALT index = base FOR count` or `PRI ALT index = base FOR count`, and the alternative below it.
     ReplicatedAlternation(TextPlace, Replicator<'a>, Box<SourceAlternative<'a>>),
     /// `IF`, and the choices below it.
@@ -237,7 +237,7 @@ pub enum SourceProcess<'a> {
     /// `WHILE condition`, and the process below it.
     While(TextPlace, Box<SourceExpression<'a>>, Box<SourceProcess<'a>>),
     /// Declarations, and the process after them, in which they hold.
-    Declared(Vec<SourceDeclaration<'a>>, Box<SourceProcess<'a>>),
+    Declared(Vec<Box<SourceDeclaration<'a>>>, Box<SourceProcess<'a>>),
 }
 
 impl<'a> Drop for SourceProcess<'a> {

@@ -34,9 +34,6 @@ decreases-take_choices l = 16 * l.depth + 7
 abbrev pub decreases-take_choice : goal.decreases-take_choice
 decreases-take_choice l = 16 * l.depth + 6
 
-abbrev pub decreases-take_boxed_body : goal.decreases-take_boxed_body
-decreases-take_boxed_body l = 16 * l.depth + 6
-
 abbrev pub decreases-take_components : goal.decreases-take_components
 decreases-take_components l = 16 * l.depth + 5
 
@@ -54,9 +51,6 @@ decreases-take_declarations l = 16 * l.depth + 2
 
 abbrev pub decreases-take_procedure : goal.decreases-take_procedure
 decreases-take_procedure l = 16 * l.depth + 1
-
-abbrev pub decreases-take_boxed_statement : goal.decreases-take_boxed_statement
-decreases-take_boxed_statement l = 16 * l.depth + 1
 
 abbrev pub decreases-take_statement : goal.decreases-take_statement
 decreases-take_statement l = 16 * l.depth
