@@ -39,8 +39,16 @@ pub enum MeaningHint<'a> {
     TableOfConstants,
     /// A procedure isn't known in its own body.
     NoRecursion,
+    /// A name is known no more, whose last declaration is in this line.
+    OutOfScope(u32),
     /// The elements of an array are sent one after another.
     OneByOne,
+    /// What sends one character, or a string, by the channel of this name.
+    SendText(&'a str),
+    /// A variable of this type can receive the message.
+    Receive(DataType),
+    /// What is an array.
+    ArrayValue,
 }
 
 impl fmt::Display for MeaningHint<'_> {
@@ -76,6 +84,21 @@ impl fmt::Display for MeaningHint<'_> {
             ),
             MeaningHint::OneByOne => f.write_str(
                 "SEQ i = 0 FOR SIZE a sends its elements one after another",
+            ),
+            MeaningHint::OutOfScope(line) => write!(
+                f,
+                "It is known only in the process after its declaration in line {line}"
+            ),
+            MeaningHint::SendText(name) => write!(
+                f,
+                "{name} ! 'a' sends one character, and out.string (\"text\", {name}) sends a string"
+            ),
+            MeaningHint::Receive(data_type) => {
+                let word = word_of_type(*data_type);
+                write!(f, "{word} v: declares a variable that can receive it")
+            }
+            MeaningHint::ArrayValue => f.write_str(
+                "An array is written as its name, as a string or as a table",
             ),
             MeaningHint::PlaceAtName(name) => write!(
                 f,

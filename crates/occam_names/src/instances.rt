@@ -9,7 +9,7 @@ use crate::rows::in_sequence;
 use crate::scope::{FoundName, Meaning};
 use occam_core::CoreProcess;
 use occam_tree::{
-    SourceExpression, SourceName, SourceProcess, SourceTable, SourceValue, TextPlace,
+    SourceExpression, SourceName, SourceProcedure, SourceTable, SourceValue, TextPlace,
 };
 
 // What a parameter means in an instance.
@@ -23,7 +23,7 @@ struct BoundName<'a> {
 // The body of a procedure, and what is known in it.
 #[derive(Clone, Copy)]
 struct ProcedureBody<'a, 'b> {
-    process: &'b SourceProcess<'a>,
+    source: &'b SourceProcedure<'a>,
     known: usize,
     hidden: Option<usize>,
     is_before: bool,
@@ -96,7 +96,7 @@ impl<'a, 'b> Namer<'a, 'b> {
         let count = self.scope.len();
         let before = self.scope.hidden_names();
         self.bind(body, parameters);
-        let process = self.process(body.process, false, depth);
+        let process = self.process(&body.source.process, false, depth);
         self.leave(count);
         self.scope.show_again(before);
         self.notes.around = around;
@@ -107,7 +107,7 @@ impl<'a, 'b> Namer<'a, 'b> {
     fn body_of(&self, index: usize) -> Option<ProcedureBody<'a, 'b>> {
         let procedure = self.procedures.get(index)?;
         Some(ProcedureBody {
-            process: procedure.process,
+            source: procedure.source,
             known: procedure.known,
             hidden: procedure.hidden,
             is_before: procedure.is_before,

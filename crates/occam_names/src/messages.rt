@@ -10,7 +10,7 @@ use crate::met::MetMeaning;
 use crate::namer::Namer;
 use crate::notes::Notes;
 use occam_core::{CoreArray, CoreChannel, CoreProcess, MessageKind};
-use occam_tree::{DataType, SourceElement, SourceExpression, SourceValue, TextPlace};
+use occam_tree::{DataType, SourceElement, SourceExpression, SourceTable, SourceValue, TextPlace};
 
 // The input of a message by a channel.
 fn input_of(channel: CoreChannel, kind: MessageKind, element: CoreElement) -> CoreProcess {
@@ -22,9 +22,22 @@ fn input_of(channel: CoreChannel, kind: MessageKind, element: CoreElement) -> Co
     }
 }
 
+// What helps if an array is sent by the channel of this name, whose messages are single values.
+fn hint_of_array<'a>(channel: &'a str, value: &SourceValue<'a>) -> MeaningHint<'a> {
+    match value {
+        SourceValue::Table(SourceTable::Text(_, _)) => MeaningHint::SendText(channel),
+        _ => MeaningHint::OneByOne,
+    }
+}
+
 impl<'a> Notes<'a> {
-    // Whether an array is a message. If not, that is noted.
-    fn is_message_array(&mut self, typed: TypedArray, message: MessageType) -> bool {
+    // Whether an array is a message. If not, that is noted, with this hint if a message is no array.
+    fn is_message_array(
+        &mut self,
+        typed: TypedArray,
+        message: MessageType,
+        hint: MeaningHint<'a>,
+    ) -> bool {
         match message {
             MessageType::Array(length, data_type) => {
                 let expected = ExpectedMeaning::MessageArray(length, data_type);
@@ -33,7 +46,7 @@ impl<'a> Notes<'a> {
             MessageType::One(kind) => {
                 let expected = ExpectedMeaning::Message(carried_type(kind));
                 let met = MetMeaning::TypedArray(typed.array.length(), typed.array.data_type);
-                self.tell(typed.place, expected, met, Some(MeaningHint::OneByOne));
+                self.tell(typed.place, expected, met, Some(hint));
                 false
             }
         }
@@ -78,7 +91,8 @@ impl<'a, 'b> Namer<'a, 'b> {
         }
         let expected = ExpectedMeaning::Message(expected);
         let met = MetMeaning::Typed(element.data_type);
-        self.notes.tell(target.name.place, expected, met, None);
+        let hint = Some(MeaningHint::Receive(carried_type(kind)));
+        self.notes.tell(target.name.place, expected, met, hint);
         None
     }
 
@@ -129,9 +143,10 @@ impl<'a, 'b> Namer<'a, 'b> {
     /// `channel ! value`
     pub fn output(&mut self, channel: &SourceElement<'a>, value: &SourceValue<'a>) -> CoreProcess {
         let place = channel.name.place;
+        let hint = hint_of_array(channel.name.text, value);
         let channel = self.used_channel(channel, ChannelUse::Send);
         let output = match self.whole_array(value) {
-            WholeArray::Is(array) => self.array_output(channel, array),
+            WholeArray::Is(array) => self.array_output(channel, array, hint),
             WholeArray::Wrong => None,
             WholeArray::Not => self.element_output(channel, value),
         };
@@ -146,9 +161,10 @@ impl<'a, 'b> Namer<'a, 'b> {
         &mut self,
         channel: Option<TypedChannel>,
         array: TypedArray,
+        hint: MeaningHint<'a>,
     ) -> Option<CoreProcess> {
         let typed = channel?;
-        if self.notes.is_message_array(array, typed.message) {
+        if self.notes.is_message_array(array, typed.message, hint) {
             Some(CoreProcess::OutputArray(typed.channel, array.array.array))
         } else {
             None
@@ -175,7 +191,7 @@ impl<'a, 'b> Namer<'a, 'b> {
             }
             MessageType::Array(length, data_type) => {
                 let expected = ExpectedMeaning::MessageArray(length, data_type);
-                self.tell_no_array_value(expression, expected, None);
+                self.tell_no_array_value(expression, expected, Some(MeaningHint::ArrayValue));
                 None
             }
         }

@@ -98,7 +98,8 @@ impl<'a, 'b> Namer<'a, 'b> {
 
     /// Forgets all names but the first `count`.
     pub fn leave(&mut self, count: usize) {
-        let has_left = self.scope.leave(count).is_ok();
+        let are_in_text = self.notes.around.is_in_text();
+        let has_left = self.scope.leave(count, are_in_text).is_ok();
         self.notes.note_memory(has_left);
     }
 
@@ -128,7 +129,7 @@ impl<'a, 'b> Namer<'a, 'b> {
         } else if self.notes.around.procedure == Some(name.text) {
             Some(MeaningHint::NoRecursion)
         } else {
-            self.scope.nearest(name.text)
+            self.scope.hint_of_unknown(name.text)
         };
         let met = MetMeaning::Unknown(name.text);
         self.notes

@@ -33,6 +33,11 @@ impl Surroundings<'_> {
     pub fn is_in_place(self) -> bool {
         self.is_replicated || self.instance.is_some() || self.prelude.is_some()
     }
+
+    /// Whether the process is in a text of the user.
+    pub fn is_in_text(self) -> bool {
+        !self.is_before && self.prelude.is_none()
+    }
 }
 
 /// What was noted before a body is checked.

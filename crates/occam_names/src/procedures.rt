@@ -6,7 +6,7 @@ use crate::meaning::{Access, TypeMeaning};
 use crate::met::MetMeaning;
 use crate::namer::Namer;
 use crate::scope::Meaning;
-use occam_tree::{SourceFormals, SourceName, SourceProcedure, SourceProcess, TextPlace};
+use occam_tree::{SourceFormals, SourceName, SourceProcedure, TextPlace};
 
 /// A parameter of a procedure.
 #[derive(Clone, Copy)]
@@ -21,8 +21,8 @@ pub struct Formal<'a> {
 /// A procedure that is known.
 #[derive(Drop)]
 pub struct KnownProcedure<'a, 'b> {
+    pub source: &'b SourceProcedure<'a>,
     pub formals: Vec<Formal<'a>>,
-    pub process: &'b SourceProcess<'a>,
     /// How many names are known in its body.
     pub known: usize,
     /// Which of them aren't seen there.
@@ -50,8 +50,8 @@ impl<'a, 'b> Namer<'a, 'b> {
         let is_added = self
             .procedures
             .push(KnownProcedure {
+                source: procedure,
                 formals,
-                process: &procedure.process,
                 known: self.scope.len(),
                 hidden: self.scope.hidden_names(),
                 is_before,

@@ -60,6 +60,8 @@ pub struct Scope<'a> {
     names: Vec<KnownName<'a>>,
     // Which of the names a text means, hidden or not.
     meant: HashMap<&'a str, Option<usize>>,
+    // Names of the user's text that are known no more, each with the line of its last declaration.
+    ended: HashMap<&'a str, u32>,
     intervals: Vec<HiddenNames>,
     // The interval that counts.
     current: Option<usize>,
@@ -71,6 +73,7 @@ impl<'a> Scope<'a> {
         Scope {
             names: Vec::new(alloc),
             meant: HashMap::new(alloc),
+            ended: HashMap::new(alloc),
             intervals: Vec::new(alloc),
             current: None,
         }
@@ -187,18 +190,38 @@ impl<'a> Scope<'a> {
         Ok(())
     }
 
-    /// Forgets all names but the first `count`, and finds again what they hid.
-    pub fn leave(&mut self, count: usize) -> Result<(), AllocError> {
+    /// Forgets all names but the first `count`, and finds again what they hid. If the names are those of a user's text,
+    /// the lines of their declarations are kept for hints.
+    pub fn leave(&mut self, count: usize, are_in_text: bool) -> Result<(), AllocError> {
         for _ in count..self.names.len() {
             if let Some(known) = self.names.pop() {
-                self.meant.insert(known.name.text, known.hidden)?;
+                self.end(known, are_in_text)?;
             }
         }
         Ok(())
     }
 
-    /// The name that a mistyped one most likely is.
-    pub fn nearest(&self, text: &str) -> Option<MeaningHint<'a>> {
+    // Forgets the innermost name.
+    fn end(&mut self, known: KnownName<'a>, is_in_text: bool) -> Result<(), AllocError> {
+        let SourceName { text, place } = known.name;
+        self.meant.insert(text, known.hidden)?;
+        if is_in_text {
+            self.ended.insert(text, place.line)?;
+        }
+        Ok(())
+    }
+
+    /// What helps if a text means nothing: where the name of that text was known, or the name that a mistyped one most
+    /// likely is.
+    pub fn hint_of_unknown(&self, text: &'a str) -> Option<MeaningHint<'a>> {
+        match self.ended.get(&text) {
+            Some(line) => Some(MeaningHint::OutOfScope(*line)),
+            None => self.nearest(text),
+        }
+    }
+
+    // The name that a mistyped one most likely is.
+    fn nearest(&self, text: &str) -> Option<MeaningHint<'a>> {
         let names = self.names.as_slice();
         nearest_within(names, text, 0)
             .or(nearest_within(names, text, 1))

@@ -3,6 +3,7 @@
 use crate::arrays::{TypedArray, WholeArray};
 use crate::expected::ExpectedMeaning;
 use crate::expressions::{TypedExpression, number_of};
+use crate::fault::MeaningHint;
 use crate::marks::{MarkKind, Region};
 use crate::meaning::{Access, ArrayMeaning, Cell, TypeMeaning};
 use crate::met::MetMeaning;
@@ -118,7 +119,8 @@ impl<'a, 'b> Namer<'a, 'b> {
             Some(TypeMeaning::Data(data_type)) => self.value_of_type(expression, data_type),
             Some(TypeMeaning::Array(length, data_type)) => {
                 let expected = ExpectedMeaning::OfArray(length, data_type);
-                self.tell_no_array_value(expression, expected, None);
+                let hint = Some(MeaningHint::ArrayValue);
+                self.tell_no_array_value(expression, expected, hint);
                 None
             }
             Some(TypeMeaning::Channel(_) | TypeMeaning::ChannelArray(_, _)) => None,
