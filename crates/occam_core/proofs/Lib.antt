@@ -1,3 +1,5 @@
 pub mod Tracing
 pub mod Coming
 pub mod Beginnings
+pub mod Sides
+pub mod InnerMessages

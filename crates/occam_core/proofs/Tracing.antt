@@ -76,16 +76,18 @@ by_element array (Some k) trace before course goes =
     if_has (nat_lt k array.length) k trace before (course k) (goes k)
 
 -- zeros
-zeros : ℕ → List ℕ
+pub zeros : ℕ → List ℕ
 zeros zero = []
 zeros (suc n) = 0 ∷ zeros n
 
-length_zeros : (n : ℕ) → length (zeros n) ≡ n
+-- as many
+pub length_zeros : (n : ℕ) → length (zeros n) ≡ n
 unfolding zeros
 length_zeros zero = refl
 length_zeros (suc n) = ap suc (length_zeros n)
 
-zeros_are_bytes : (n : ℕ) → AreBytes (zeros n)
+-- each is a byte
+pub zeros_are_bytes : (n : ℕ) → AreBytes (zeros n)
 unfolding zeros
 zeros_are_bytes zero i = omega arith
 zeros_are_bytes (suc n) zero = omega arith
