@@ -1,7 +1,7 @@
 //! In which lines of its program a node waits, halted or goes on.
 
 use crate::code::next_address;
-use bootstrap::Node;
+use bootstrap::{Memory, Node};
 use domain_core::NoMemory;
 use link_channels::Process;
 use node_causes::{Cause, LinkWaits, cause_of, inside_waits};
@@ -10,10 +10,12 @@ use record_following::Follower;
 use script_text::TextWriter;
 use std::alloc::Global;
 
-/// The lines of a node's program.
+/// The lines of a node's program, and the memory in which it is.
 #[derive(Clone, Copy)]
 struct NodeLines<'a> {
     node: u8,
+    memory: &'a Memory,
+    program: &'a Program,
     lines: &'a [ProgramLine<'a>],
 }
 
@@ -26,8 +28,24 @@ impl NodeLines<'_> {
         text.push_word(address);
         text.push(" ");
         text.push(does);
-        write_line_at(self.lines, address, text);
+        match line_with(self.lines, address) {
+            Some(line) if !self.is_there(&line) => {
+                text.push(" where memory has other code than its program");
+            }
+            _ => write_line_at(self.lines, address, text),
+        }
         text.push("\n");
+    }
+
+    // Whether the bytes of a line of the program are in memory.
+    fn is_there(self, line: &ProgramLine) -> bool {
+        for offset in 0..line.length {
+            let address = line.address.wrapping_add(offset);
+            if self.memory.byte(address).ok() != self.program.byte_at(address) {
+                return false;
+            }
+        }
+        true
     }
 
     // Writes where a process waits, whose last instruction is before the one at which it goes on.
@@ -100,6 +118,8 @@ pub fn write_waits(
     let lines = program.lines(alloc)?;
     let its = NodeLines {
         node: number,
+        memory: node.memory(),
+        program,
         lines: lines.as_slice(),
     };
     match cause_of(follower, number) {

@@ -131,6 +131,12 @@ impl Program {
         }
     }
 
+    /// The byte of its code at an address, if it has one there.
+    pub fn byte_at(&self, address: u32) -> Option<u8> {
+        let offset = usize::try_from(address.wrapping_sub(self.origin)).ok()?;
+        self.code().get(offset).copied()
+    }
+
     /// Its lines that have code or a label, as pieces of code.
     pub fn lines(&self, alloc: Global) -> Result<Vec<ProgramLine<'_>>, AllocError> {
         let source = numbered_lines(alloc, self.text.as_slice())?;
