@@ -69,9 +69,14 @@ pub(crate) fn core_of_text<'a>(
     alloc: Global,
     text: &'a [u8],
 ) -> Result<CoreProgram<'a>, OccamFault<'a>> {
-    let prelude = read_occam(alloc, PRELUDE.as_bytes())?;
-    let tree = read_occam(alloc, text)?;
+    let prelude = tree_of(alloc, PRELUDE.as_bytes())?;
+    let tree = tree_of(alloc, text)?;
     checked_core(alloc, declarations_of(&prelude), &tree)
+}
+
+// The tree of a text.
+fn tree_of<'a>(alloc: Global, text: &'a [u8]) -> Result<Box<SourceProcess<'a>>, OccamFault<'a>> {
+    Ok(read_occam(alloc, text)?)
 }
 
 /// The program of a core.
@@ -93,11 +98,31 @@ pub(crate) fn checked_core<'a>(
     prelude: &[Box<SourceDeclaration<'a>>],
     tree: &SourceProcess<'a>,
 ) -> Result<CoreProgram<'a>, OccamFault<'a>> {
-    let core = core_of(alloc, prelude, tree)?;
-    match find_clash(alloc, &core.process)? {
-        Some(clash) => Err(OccamFault::Uses(UseMistake::of(clash, &core))),
+    let core = named_core(alloc, prelude, tree)?;
+    match mistake_of_uses(alloc, &core)? {
+        Some(mistake) => Err(OccamFault::Uses(mistake)),
         None => Ok(core),
     }
+}
+
+// The core of a text after these declarations, whose names and types are right.
+fn named_core<'a>(
+    alloc: Global,
+    prelude: &[Box<SourceDeclaration<'a>>],
+    tree: &SourceProcess<'a>,
+) -> Result<CoreProgram<'a>, OccamFault<'a>> {
+    Ok(core_of(alloc, prelude, tree)?)
+}
+
+// What processes of a PAR use together, if they do.
+fn mistake_of_uses<'a>(
+    alloc: Global,
+    core: &CoreProgram<'a>,
+) -> Result<Option<UseMistake<'a>>, AllocError> {
+    Ok(match find_clash(alloc, &core.process)? {
+        Some(clash) => Some(UseMistake::of(clash, core)),
+        None => None,
+    })
 }
 
 /// The declarations that a process begins with.

@@ -101,14 +101,20 @@ fn without_number(name: &str) -> Option<(&str, u32)> {
     Some((base, u32::try_from(number).unwrap_or(u32::MAX)))
 }
 
-// The number after each name, or 0 if it has none.
-fn copies_of<'a>(alloc: Global, bases: &[&'a str]) -> Result<Vec<u32>, AllocError> {
-    let mut numbered: Vec<(&'a str, u32)> = Vec::new(alloc);
+// The names that end in a number, each without it and with it.
+fn numbered_names<'a>(alloc: Global, bases: &[&'a str]) -> Result<Vec<(&'a str, u32)>, AllocError> {
+    let mut numbered = Vec::new(alloc);
     for base in bases {
         if let Some(parts) = without_number(base) {
             numbered.push(parts)?;
         }
     }
+    Ok(numbered)
+}
+
+// The number after each name, or 0 if it has none.
+fn copies_of<'a>(alloc: Global, bases: &[&'a str]) -> Result<Vec<u32>, AllocError> {
+    let numbered = numbered_names(alloc, bases)?;
     let mut last: HashMap<&'a str, u32> = HashMap::new(alloc);
     let mut copies = Vec::new(alloc);
     for base in bases {

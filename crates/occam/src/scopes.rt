@@ -78,10 +78,7 @@ fn spans_of(
     uses: &[CoreUse],
     owners: &WordOwners<'_, '_>,
 ) -> Result<Vec<UseSpan>, AllocError> {
-    let mut spans = Vec::new(alloc);
-    for _ in owners.declarations {
-        spans.push(UNUSED)?;
-    }
+    let mut spans = vec![in alloc; UNUSED; owners.declarations.len()]?;
     for one in uses {
         if let Some(span) = spans.get_mut(owners.owner(one.first)) {
             *span = span.with(one.node);
@@ -140,10 +137,7 @@ fn latest_moments(
     spans: &[UseSpan],
     owners: &WordOwners<'_, '_>,
 ) -> Result<Vec<usize>, AllocError> {
-    let mut latest = Vec::new(alloc);
-    for _ in spans {
-        latest.push(0)?;
-    }
+    let mut latest = vec![in alloc; 0; spans.len()]?;
     let mut bound = before(nodes.len().saturating_sub(1));
     for (index, declaration) in owners.declarations.iter().enumerate().rev() {
         if is_table(declaration) {

@@ -158,10 +158,7 @@ fn channel_ends(
     uses: &[CoreUse],
     words: usize,
 ) -> Result<Vec<ChannelEnds>, AllocError> {
-    let mut ends = Vec::new(alloc);
-    for _ in 0..words {
-        ends.push(NO_ENDS)?;
-    }
+    let mut ends = vec![in alloc; NO_ENDS; words]?;
     for one in uses {
         for word in 0..one.count {
             if let Some(end) = ends.get_mut(one.first.saturating_add(word) as usize) {
@@ -197,10 +194,7 @@ fn fillings_of(
     owners: &WordOwners<'_, '_>,
 ) -> Result<Vec<Filling>, AllocError> {
     let loop_ends = loop_ends_of(alloc, nodes)?;
-    let mut fillings = Vec::new(alloc);
-    for _ in owners.declarations {
-        fillings.push(Filling::New)?;
-    }
+    let mut fillings = vec![in alloc; Filling::New; owners.declarations.len()]?;
     for one in uses {
         if let Some(filling) = fillings.get_mut(owners.owner(one.first)) {
             let loop_end = loop_ends.get(one.node).copied().unwrap_or(0);

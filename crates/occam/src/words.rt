@@ -54,10 +54,7 @@ impl<'b, 'a> WordOwners<'b, 'a> {
         declarations: &'b [CoreDeclaration<'a>],
         words: usize,
     ) -> Result<WordOwners<'b, 'a>, AllocError> {
-        let mut owners = Vec::new(alloc);
-        for _ in 0..words {
-            owners.push(usize::MAX)?;
-        }
+        let mut owners = vec![in alloc; usize::MAX; words]?;
         for (index, declaration) in declarations.iter().enumerate() {
             let first = declaration.first as usize;
             for word in 0..declaration.form.words() as usize {

@@ -91,7 +91,7 @@ pub struct CoreDeclaration<'a> {
 /// The core of a program, and its variables.
 #[derive(Drop)]
 pub struct CoreProgram<'a> {
-    pub process: CoreProcess,
+    pub process: Box<CoreProcess>,
     /// The variables by their numbers in the core.
     pub variables: Vec<CoreVariable<'a>>,
     /// The channels at links. No two have one number.
@@ -134,7 +134,9 @@ fn core_with<'a, 'b>(
 ) -> Result<CoreProgram<'a>, OccamNamesFault<'a>>
     ensures mistakes { IfErr result HasMistakes }
 {
-    let process = namer.program(prelude, program);
+    let Ok(process) = namer.program(prelude, program) else {
+        return Err(OccamNamesFault::NoMemory);
+    };
     if namer.notes.lacks_memory {
         Err(OccamNamesFault::NoMemory)
     } else if namer.notes.mistakes.is_empty() {

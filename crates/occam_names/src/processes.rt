@@ -14,6 +14,7 @@ use occam_tree::{
     DataType, Replicator, SourceChoice, SourceDeclaration, SourceElement, SourceExpression,
     SourceName, SourceProcess, TextPlace,
 };
+use std::alloc::AllocError;
 
 /// How many choices an `IF` has at most.
 const MOST_CHOICES: usize = 1_000;
@@ -58,7 +59,7 @@ impl<'a, 'b> Namer<'a, 'b> {
         &mut self,
         prelude: &'b [Box<SourceDeclaration<'a>>],
         program: &'b SourceProcess<'a>,
-    ) -> CoreProcess {
+    ) -> Result<Box<CoreProcess>, AllocError> {
         let mut row = Vec::new(self.notes.alloc);
         self.notes.begin_prelude();
         for declaration in prelude {
@@ -69,7 +70,8 @@ impl<'a, 'b> Namer<'a, 'b> {
         let process = self.process(program, true, MOST_LEVELS);
         self.notes.add(&mut row, process);
         let made = in_sequence(self.notes.alloc, row);
-        self.notes.made_process(made)
+        let process = self.notes.made_process(made);
+        Ok(Box::new(self.notes.alloc, process)?)
     }
 
     /// A process of the core, in which processes are at most `depth` deep in one another. What is wrong with the process is

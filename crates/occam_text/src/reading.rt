@@ -1,11 +1,11 @@
 //! Reads a whole text.
 ghost use Rattle.std.specs.Prelude.{◌≤◌, IfOk, length};
 
-use crate::lines::words_of;
+use crate::lines::{TextWords, words_of};
 use crate::mistakes::{ExpectedPart, GrammarMistake, MetPart, OccamTextFault};
 use crate::tree_reader::TreeReader;
 use occam_tree::{SourceProcess, TextPlace};
-use script_text::numbered_lines;
+use script_text::{NumberedLine, numbered_lines};
 use std::alloc::Global;
 
 // How many bytes a text has at most.
@@ -34,7 +34,16 @@ pub fn read_occam<'a>(
         return Err(too_long(65_536));
     }
     let words = words_of(alloc, lines.as_slice())?;
-    let mut reader = TreeReader::new(alloc, lines.as_slice(), &words);
+    tree_of_words(alloc, lines.as_slice(), &words)
+}
+
+// The tree of the words of a text with these lines.
+fn tree_of_words<'a>(
+    alloc: Global,
+    lines: &[NumberedLine<'a>],
+    words: &TextWords<'a>,
+) -> Result<Box<SourceProcess<'a>>, OccamTextFault<'a>> {
+    let mut reader = TreeReader::new(alloc, lines, words);
     match reader.take_text() {
         Ok(process) => Ok(process),
         Err(_) => Err(reader.fault()),
