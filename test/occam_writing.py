@@ -184,14 +184,19 @@ class Writer(Arrays, Procedures):
     def joined(self, left, operator, right, low, high):
         return Part([*self.operand(left), operator, *self.operand(right)], low, high, False, left.is_constant and right.is_constant)
 
+    def masked(self, part, most):
+        """The low bits of a value. The span of a constant is its value alone."""
+        mask = self.constant(most)
+        return self.joined(part, "/\\", mask, *self.bits("/\\", part, mask))
+
     def shift(self, operator, left, right):
         if right.low < 0 or right.high > 32 or self.chance(0.4):
             right = self.constant(self.random.choice((0, 1, 2, 4, 8, 16, 31, 32)))
             if self.risk() and not left.is_constant:
                 right = self.constant(self.random.choice((33, 33, 34, 64, MOST_POSITIVE, -1, MOST_NEGATIVE)))
             elif self.chance(0.4):
-                low, high = (0, 15) if self.chance(0.5) else (0, 31)
-                right = self.joined(self.int_leaf(), "/\\", self.constant(high), low, high)
+                most = 15 if self.chance(0.5) else 31
+                right = self.masked(self.int_leaf(), most)
         if left.is_constant and right.is_constant:
             number = wrapped((left.low << right.low) if operator == "<<" else ((left.low & 0xFFFFFFFF) >> right.low))
             return self.joined(left, operator, right, number, number)
@@ -205,8 +210,8 @@ class Writer(Arrays, Procedures):
             most = self.random.choice((1, 9, 99, 255, 4095))
             right = self.constant(self.random.choice((1, 2, 3, 7, 10, 16, 100, 1000, MOST_POSITIVE, MOST_NEGATIVE, -2, -3, -10)))
             if self.chance(0.4):
-                few = self.joined(self.int_leaf(), "/\\", self.constant(most), 0, most)
-                right = self.joined(few, "+", self.constant(1), 1, most + 1)
+                few = self.masked(self.int_leaf(), most)
+                right = self.joined(few, "+", self.constant(1), few.low + 1, few.high + 1)
         overflows = right.low <= -1 <= right.high and left.low == MOST_NEGATIVE and operator == "/"
         if overflows and not (self.risk() and not right.is_constant):
             right = self.constant(self.random.choice((3, 5, -7, 1)))
