@@ -7,7 +7,7 @@
 //! - `turns-2048`, `turns-65536`: such tickets that do 256 Steps and are committed;
 //! - `checkouts-used`, `turns-used`: the same with 65,536 bytes, where the last word was written too.
 
-use crate::faults::{failed, refused};
+use crate::faults::{error_of_fault, error_of_refusal};
 use crate::selection::Selection;
 use crossbar::{Outputs, PlainOutputs};
 use domain_core::{By, Committed, Domain, Event, Moved, Refusal, Reply};
@@ -93,14 +93,14 @@ fn ann_with_two_nodes(alloc: Global) -> Result<DomainPlan, AllocError> {
 }
 
 // The domain of the plan, as it is opened.
-fn opened(alloc: Global) -> Result<Plain, PlanFault> {
+fn open_domain(alloc: Global) -> Result<Plain, PlanFault> {
     let domains = vec![in alloc; ann_with_two_nodes(alloc)?]?;
     let plan = check(alloc, Plan { domains })?;
     if plan.domains() == 0 {
         return Err(PlanFault::DomainCount);
     }
     let part = plan.part(0).copy(alloc)?;
-    let outputs = PlainOutputs::unused(plan.ranges(0));
+    let outputs = PlainOutputs::new(plan.ranges(0));
     if outputs.count() != part.count() {
         return Err(PlanFault::DomainCount);
     }
@@ -241,7 +241,7 @@ fn turns(alloc: Global, domain: &mut Plain, node: u8, count: u64) -> Result<u64,
 }
 
 // Does `count` rounds of a work, in a domain that is restarted for it; returns how many were done.
-fn done(alloc: Global, domain: &mut Plain, work: TimedWork, count: u64) -> Result<u64, Refusal> {
+fn do_work(alloc: Global, domain: &mut Plain, work: TimedWork, count: u64) -> Result<u64, Refusal> {
     match work {
         TimedWork::Pings => pings(alloc, domain, count),
         TimedWork::Configs => configs(alloc, domain, count),
@@ -277,7 +277,7 @@ fn print_done(
     work: TimedWork,
     count: u64,
 ) -> io::Result<()> {
-    let done = done(alloc, domain, work, count).map_err(refused)?;
+    let done = do_work(alloc, domain, work, count).map_err(error_of_refusal)?;
     println!(rt; "{name}: {done}")
 }
 
@@ -298,6 +298,6 @@ fn measure_on(
 
 /// Does COUNT rounds of each of those that are asked for.
 pub fn measure(rt: &impl Print, alloc: Global, selection: Selection<'_>) -> io::Result<()> {
-    let mut domain = opened(alloc).map_err(failed)?;
+    let mut domain = open_domain(alloc).map_err(error_of_fault)?;
     measure_on(rt, alloc, &mut domain, selection)
 }

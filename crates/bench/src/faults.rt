@@ -5,7 +5,7 @@ use plan_rules::PlanFault;
 use std::io;
 
 /// A plan, a table or a domain that could not be had.
-pub fn failed(fault: PlanFault) -> io::Error {
+pub fn error_of_fault(fault: PlanFault) -> io::Error {
     match fault {
         PlanFault::NoMemory => io::Error::from(io::ErrorKind::OutOfMemory),
         _ => io::Error::from(io::ErrorKind::InvalidData),
@@ -13,7 +13,7 @@ pub fn failed(fault: PlanFault) -> io::Error {
 }
 
 /// An event that was refused.
-pub fn refused(refusal: Refusal) -> io::Error {
+pub fn error_of_refusal(refusal: Refusal) -> io::Error {
     match refusal {
         Refusal::NoMemory => io::Error::from(io::ErrorKind::OutOfMemory),
         _ => io::Error::from(io::ErrorKind::InvalidData),

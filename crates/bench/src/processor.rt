@@ -7,7 +7,7 @@ use t414_step::Cpu;
 pub fn cpu_at(instruction: u32, workspace: u32, c: u32) -> Cpu {
     Cpu {
         c,
-        ..Cpu::started(instruction, workspace)
+        ..Cpu::new(instruction, workspace)
     }
 }
 

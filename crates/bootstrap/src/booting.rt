@@ -47,13 +47,13 @@ fn free_channels(memory: &mut Memory)
 }
 
 // The registers of a node that begins to run code which ends before an address.
-fn begun(link: LinkNumber, end: u32) -> Cpu
+fn cpu_at_start(link: LinkNumber, end: u32) -> Cpu
     ensures answer { result ≡ begun link end }
 {
     let above = end.wrapping_add(3);
     Cpu {
         c: link.input_channel(),
-        ..Cpu::started(CODE_START, above - above % 4)
+        ..Cpu::new(CODE_START, above - above % 4)
     }
 }
 
@@ -159,7 +159,7 @@ impl Node {
             self.state = NodeState::Takes { link, task };
         } else {
             free_channels(&mut self.memory);
-            self.state = NodeState::Runs(begun(link, address));
+            self.state = NodeState::Runs(cpu_at_start(link, address));
         }
     }
 
@@ -194,7 +194,7 @@ impl Node {
     }
 
     // The lowest link that has a byte.
-    pub(crate) fn offered(&self) -> Option<LinkNumber>
+    pub(crate) fn offering_link(&self) -> Option<LinkNumber>
         ensures answer { result ≡ offered self.now.links }
     {
         let links = self.links.four();

@@ -45,7 +45,7 @@ impl Node {
     {
         match self.state {
             NodeState::WantsControl => {
-                let Some(link) = self.offered() else {
+                let Some(link) = self.offering_link() else {
                     return Stepped::Idle;
                 };
                 let Some(byte) = self.links.take_byte(link) else {
@@ -93,7 +93,7 @@ impl Node {
         ensures answer { result ≡ is_quiet self.now }
     {
         match &self.state {
-            NodeState::WantsControl => self.offered().is_none(),
+            NodeState::WantsControl => self.offering_link().is_none(),
             NodeState::Takes { link, .. } => self.links.at(*link).end.input.buffer.is_none(),
             NodeState::Answers { link, .. } => !self.links.at(*link).end.output.acknowledged,
             NodeState::Runs(_) => unreachable!(),

@@ -102,13 +102,13 @@ pub fn make_ready<O: Outputs>(outputs: &mut O)
     ensures kept { IsKept (O.seen outputs.old) (O.seen outputs.new) }
 {
     for output in 0..outputs.count() {
-        let connection = readied(outputs.read(output));
+        let connection = ready_connection(outputs.read(output));
         set(outputs, output, connection);
     }
 }
 
 /// What the word says, made ready.
-fn readied(word: Word) -> Option<Connection>
+fn ready_connection(word: Word) -> Option<Connection>
     ensures { result ≡ ready_of (connection_of word) }
 {
     let connection = word.connection()?;
@@ -138,7 +138,7 @@ pub fn driven_by<O: Outputs>(outputs: &mut O, port: u8) -> u32
     let mut driven = 0;
     for output in 0..outputs.count() {
         let on = is_driver(enquire(outputs, output), port);
-        driven = marked(driven, output, on);
+        driven = with_mark(driven, output, on);
     }
     driven
 }
@@ -153,7 +153,7 @@ fn is_driver(driver: Option<u8>, input: u8) -> bool
 }
 
 /// The bits, and bit `output` too where it is on.
-fn marked(bits: u32, output: u8, on: bool) -> u32
+fn with_mark(bits: u32, output: u8, on: bool) -> u32
     requires { output < 32 }
     ensures { (q : ℕ) → bit_at result q ≡ (if on && (q == output) then 1 else bit_at bits q) }
 {

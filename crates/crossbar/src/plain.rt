@@ -52,7 +52,7 @@ impl PlainOutputs {
     }
 
     /// The outputs of the ranges, all of them disconnected and never changed.
-    pub fn unused(ranges: [Option<PortRange>; MOST_RANGES]) -> PlainOutputs
+    pub fn new(ranges: [Option<PortRange>; MOST_RANGES]) -> PlainOutputs
         requires { AreRanges ranges }
         ensures row { result ≡ outputs_of (replicate 32 (record { bits = 0 })) ranges }
         ensures switch { switch_of result.words ≡ cleared }

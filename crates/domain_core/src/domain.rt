@@ -310,10 +310,10 @@ impl<O: Outputs + Drop> Domain<O> {
     }
 
     /// For how many entries of the journal in all memory is reserved.
-    pub fn reserved(&self) -> usize
+    pub fn reserved_entries(&self) -> usize
         ensures { result ≡ self.now.reserved }
     {
-        self.journal.reserved()
+        self.journal.reserved_entries()
     }
 
     /// Makes the domain as it was opened, with an empty journal. The journal's memory goes back to the system, and as
@@ -333,7 +333,7 @@ impl<O: Outputs + Drop> Domain<O> {
     }
 
     /// How many events are recorded, at most the part's limit.
-    pub fn recorded(&self) -> u64
+    pub fn recorded_events(&self) -> u64
         ensures { result ≡ length (expanded self.now.journal) }
     {
         self.recorded

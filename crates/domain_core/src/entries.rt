@@ -183,7 +183,7 @@ impl Entries {
     }
 
     /// For how many entries in all memory is reserved.
-    pub(crate) fn reserved(&self) -> usize
+    pub(crate) fn reserved_entries(&self) -> usize
         ensures { result ≡ self.now.reserved }
     {
         self.reserved

@@ -88,7 +88,7 @@ impl Host {
     }
 
     /// What was received and not taken yet, front first.
-    pub fn received(&self) -> &VecDeque<u8>
+    pub fn received_bytes(&self) -> &VecDeque<u8>
         ensures { result.now.items ≡ self.now.received }
     {
         &self.received

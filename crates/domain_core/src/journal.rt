@@ -99,10 +99,10 @@ impl Journal {
     }
 
     /// For how many entries in all memory is reserved, whether they are looks or not.
-    pub fn reserved(&self) -> usize
+    pub fn reserved_entries(&self) -> usize
         ensures { result ≡ self.now.reserved }
     {
-        self.entries.reserved()
+        self.entries.reserved_entries()
     }
 
     /// Reserves memory for `count` entries in all. After `NoMemory` as much is reserved as before.

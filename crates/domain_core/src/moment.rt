@@ -58,7 +58,7 @@ impl Moment {
         // The domains of an accepted plan share no port.
         plan.separate_law();
         let part = plan.part(number).copy(alloc)?;
-        let outputs = PlainOutputs::unused(plan.ranges(number));
+        let outputs = PlainOutputs::new(plan.ranges(number));
         Ok(Moment {
             machine: RunningMachine::open(alloc, part, outputs)?,
             recorded: 0,
@@ -76,7 +76,7 @@ impl Moment {
     }
 
     /// How many events were recorded till then, at most the part's limit.
-    pub fn recorded(&self) -> u64
+    pub fn recorded_events(&self) -> u64
         ensures { result ≡ self.now.recorded }
     {
         self.recorded

@@ -64,7 +64,7 @@ fn open_domain(
     // The domains of an accepted plan share no port.
     plan.separate_law();
     let part = plan.part(number).copy(alloc)?;
-    Domain::open(alloc, part, PlainOutputs::unused(plan.ranges(number)))
+    Domain::open(alloc, part, PlainOutputs::new(plan.ranges(number)))
 }
 
 // The word of a domain's virtual output, if it has that output.
@@ -238,11 +238,11 @@ impl PlainFarm {
     }
 
     /// How many events of a domain are recorded; `None` where there is no such domain.
-    pub fn recorded(&self, domain: u8) -> Option<u64>
+    pub fn recorded_events(&self, domain: u8) -> Option<u64>
         ensures { result ≡ recorded_there (slice_get self.now domain) }
     {
         match self.domains.get(usize::from(domain)) {
-            Some(domain) => Some(domain.recorded()),
+            Some(domain) => Some(domain.recorded_events()),
             None => None,
         }
     }

@@ -57,7 +57,7 @@ fn users_of<'a>(
 // What a user was answered.
 fn replies_to(alloc: Global, session: &Session<'_>) -> Result<Vec<Reply>, NoMemory> {
     let mut replies = Vec::new(alloc);
-    for told in session.told() {
+    for told in session.commands() {
         replies.push(told.reply)?;
     }
     Ok(replies)

@@ -21,7 +21,7 @@ const REFUSED_LINE: u8 = 4;
 fn main(rt: HostRuntime) -> ExitCode {
     let alloc = rt.alloc();
     let (mut input, mut output, mut errors) = (rt.reader(), rt.stdout(), rt.stderr());
-    let words = match words_of(&rt) {
+    let words = match command_words(&rt) {
         Ok(words) => words,
         Err(error) => return ExitCode::from(refuse_arguments(&error, &mut errors).status),
     };
@@ -42,7 +42,7 @@ fn main(rt: HostRuntime) -> ExitCode {
     ExitCode::from(status)
 }
 
-fn words_of(rt: &HostRuntime) -> io::Result<Vec<String>> {
+fn command_words(rt: &HostRuntime) -> io::Result<Vec<String>> {
     match env::args(rt)?.collect(rt.alloc()) {
         Ok(words) => Ok(words),
         Err(_) => Err(io::Error::from(io::ErrorKind::OutOfMemory)),

@@ -29,7 +29,7 @@ struct UsersEnd {
 }
 
 // Parts what the users leave into passes and output lines.
-fn parted(alloc: Global, ends: Vec<UserEnd>) -> Result<UsersEnd, NoMemory>
+fn divide_ends(alloc: Global, ends: Vec<UserEnd>) -> Result<UsersEnd, NoMemory>
     ensures passes { IfOk result (λ left. left.passes.items ≡ map (λ end. end.pass) ends.items) }
     ensures screens { IfOk result (λ left. map string_bytes left.screens.items ≡ map (λ end. string_bytes end.screen) ends.items) }
 {
@@ -109,7 +109,7 @@ pub fn run_script<R: Threads + Wait + Sync>(
     let passes = Passes { workers, users };
     let ends = run_threads(rt, alloc, &service, settings, lines, passes)?;
     let ThreadEnds { workers, users } = ends;
-    let left = parted(alloc, users)?;
+    let left = divide_ends(alloc, users)?;
     // What lines say of full journals is so if closing finds it so of the passes.
     full_is_said_truly();
     close(rt, alloc, service, workers, left)

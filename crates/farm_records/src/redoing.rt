@@ -95,9 +95,9 @@ fn redo_event<O: Outputs + Drop>(
     ensures { IfOk result (λ reply.
         GainsHistory (record { call = record { by = by; event = event }; reply = reply } ∷ []) domain.old domain.new) }
 {
-    let before = domain.recorded();
+    let before = domain.recorded_events();
     let reply = domain.apply(alloc, by, event)?;
-    if domain.recorded() == before {
+    if domain.recorded_events() == before {
         return Err(RedoFault::Differs);
     }
     Ok(reply)

@@ -209,8 +209,8 @@ impl OpenFarm {
         else {
             return Ok(0);
         };
-        answers.push_many(self.stepped(Stepped::Ran)?, before)?;
-        answers.push(self.stepped(last)?)?;
+        answers.push_many(self.step_answer(Stepped::Ran)?, before)?;
+        answers.push(self.step_answer(last)?)?;
         Ok(before + 1)
     }
 
@@ -219,12 +219,12 @@ impl OpenFarm {
         if domain >= plan.domains() {
             return 0;
         }
-        let recorded = self.farm.recorded(domain).unwrap_or(0);
+        let recorded = self.farm.recorded_events(domain).unwrap_or(0);
         plan.part(domain).limit().saturating_sub(recorded)
     }
 
     // The answer to a Step.
-    fn stepped(&self, stepped: Stepped) -> Result<String, NoMemory>
+    fn step_answer(&self, stepped: Stepped) -> Result<String, NoMemory>
         ensures text { IfOk result (λ text. string_bytes text ≡ stepped_text stepped) }
     {
         let mut answer = String::new(self.alloc);
@@ -247,9 +247,9 @@ impl OpenFarm {
         // A run of calls and then of others is the run of all.
         runs_add_up();
         for asked in 0..times {
-            let before = self.farm.recorded(domain);
+            let before = self.farm.recorded_events(domain);
             let answer = self.answer_event(domain, by, event)?;
-            if self.farm.recorded(domain) == before {
+            if self.farm.recorded_events(domain) == before {
                 return answers.push_many(answer, times - asked);
             }
             answers.push(answer)?;
@@ -298,7 +298,7 @@ impl OpenFarm {
     }
 
     fn write_recorded(&self, domain: u8, text: &mut TextWriter) -> Result<(), AskFault> {
-        text.push_decimal(self.farm.recorded(domain).ok_or(Refusal::NoSuch)?);
+        text.push_decimal(self.farm.recorded_events(domain).ok_or(Refusal::NoSuch)?);
         Ok(())
     }
 

@@ -46,7 +46,7 @@ impl Histories {
         ensures domains { IfOk result (λ h. AreDomainsIn plan h.domains.items) }
         ensures journals { IfOk result (λ h. All (λ d. d.journal ≡ []) h.domains.items) }
     {
-        Histories::open_within(alloc, plan, Room::unbounded())
+        Histories::open_within(alloc, plan, Room::without_bound())
     }
 
     /// The same of domains that may take no more memory than this for their journals and for the lists of their users. It is

@@ -61,7 +61,7 @@ fn is_listed(closed: &[ClosedDomain], pass: &UserPass) -> bool
     ensures { result ≡ true → IsListed closed.now pass.now }
 {
     match closed.get(usize::from(pass.domain())) {
-        Some(domain) => lists(&domain.journal, pass.user(), pass.told()),
+        Some(domain) => lists(&domain.journal, pass.user(), pass.commands()),
         None => true,
     }
 }

@@ -12,7 +12,7 @@ pub struct Room {
 
 impl Room {
     /// As much as the system gives.
-    pub fn unbounded() -> Room
+    pub fn without_bound() -> Room
         ensures { reserved_entries result ≡ 0 }
     {
         Room { bytes: u64::MAX }

@@ -133,7 +133,7 @@ fn ask_reserved<R: Wait>(
     ensures answer { UnlessNoMemory result (IsAnswerIn plan.now number (record { by = by; event = event }) result) }
     ensures memory { result ≡ Err refusal_of.NoMemory → IsJournalOutOfRoom plan.now number reserved }
 {
-    let there = domain.reserved();
+    let there = domain.reserved_entries();
     let told = ask_planned(alloc, domain, plan, number, by, event);
     if matches!(told, Err(Refusal::NoMemory)) && there < reserved {
         return block_forever(rt);

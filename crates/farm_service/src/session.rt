@@ -71,10 +71,10 @@ impl Session<'_> {
     }
 
     /// What the user asked and was answered so far, in the user's order.
-    pub fn told(&self) -> &[Told]
+    pub fn commands(&self) -> &[Told]
         ensures { result.now ≡ self.now.pass.told }
     {
-        self.pass.told()
+        self.pass.commands()
     }
 
     // The pass.

@@ -37,7 +37,7 @@ fn status_of(domain: &mut SeatedDomain, room: RoomStatus) -> DomainStatus
     ensures unchanged { domain.new ≡ domain.old }
 {
     DomainStatus {
-        recorded: domain.recorded(),
+        recorded: domain.recorded_events(),
         limit: domain.part().limit(),
         is_quiet: domain.quiet(),
         room,

@@ -46,7 +46,7 @@ impl TurnEnd {
     }
 
     // The node's Steps were refused.
-    fn refused(refusal: Refusal) -> TurnEnd {
+    fn of_refusal(refusal: Refusal) -> TurnEnd {
         TurnEnd {
             turned: Err(refusal),
             moved: Ok(false),
@@ -54,7 +54,7 @@ impl TurnEnd {
     }
 
     // What became of the ticket. One of no Steps counts as committed.
-    fn committed(self) -> Result<Committed, Refusal> {
+    fn commit_outcome(self) -> Result<Committed, Refusal> {
         match self.turned {
             Ok(Turned::Stale) => Ok(Committed::Stale),
             Ok(Turned::BurstRecorded | Turned::NoStep) => Ok(Committed::Done),
@@ -63,7 +63,7 @@ impl TurnEnd {
     }
 
     // What was done, or the first refusal.
-    fn done(self) -> Result<TurnDone, Refusal> {
+    fn turn_done(self) -> Result<TurnDone, Refusal> {
         let turned = self.turned?;
         let moved = self.moved?;
         Ok(TurnDone { turned, moved })
@@ -120,11 +120,11 @@ impl Service {
             }
             Some(mut seated) => {
                 let ended = end_turn(alloc, &mut seated, checked_out, slot);
-                let recorded = seated.recorded();
+                let recorded = seated.recorded_events();
                 self.schedule().allowance().note(token.domain, recorded);
                 ended
             }
-            None => TurnEnd::refused(Refusal::NoSuch),
+            None => TurnEnd::of_refusal(Refusal::NoSuch),
         }
     }
 
@@ -147,8 +147,8 @@ impl Service {
         let done = if checked_out { burst(slot, steps) } else { 0 };
         self.schedule().note_steps(token, done);
         let ended = self.end(rt, alloc, token, checked_out, slot);
-        gate.ended(rt, token, &ended.committed());
-        ended.done()
+        gate.ended(rt, token, &ended.commit_outcome());
+        ended.turn_done()
     }
 
     // The same, of `quanta` quanta. If the journal has no room for them, the turn is done once more, with one.

@@ -3,7 +3,7 @@
 use node_answers::disassembly_of;
 use script_text::TextWriter;
 use std::alloc::{AllocError, Global};
-use t414_assembly::{Assembly, BOOTED, Image, TextFault, assemble, code_as_text, hexadecimal};
+use t414_assembly::{BOOTED, TextFault, assemble, code_as_text, hexadecimal};
 
 /// The answer to a row. The row is a program, whose lines ` / ` divides, and the answer is its code in hexadecimal or its
 /// fault; or it is `hex` and digits, and the answer is the instructions that they are. The code of a program is also
@@ -18,7 +18,7 @@ pub fn answer_row(alloc: Global, row: &str) -> Result<String, AllocError> {
 
 // The code of a program in digits, or that its disassembly isn't the same code.
 fn answer_program(alloc: Global, row: &str) -> Result<String, TextFault> {
-    let code = code_of(alloc, lines_of(alloc, row)?.as_bytes())?;
+    let code = assemble(alloc, BOOTED, lines_of(alloc, row)?.as_bytes())?.into_code();
     answer_code(alloc, code.as_slice())
 }
 
@@ -37,7 +37,7 @@ fn is_disassembled(alloc: Global, code: &[u8]) -> Result<bool, TextFault> {
 
 // Whether the code of a text is this.
 fn is_assembled_as(alloc: Global, text: &[u8], code: &[u8]) -> Result<bool, TextFault> {
-    let made = code_of(alloc, text)?;
+    let made = assemble(alloc, BOOTED, text)?.into_code();
     Ok(made.as_slice() == code)
 }
 
@@ -49,17 +49,6 @@ fn lines_of(alloc: Global, row: &str) -> Result<String, AllocError> {
         text.push("\n");
     }
     text.finish()
-}
-
-// The code of a text that a boot takes.
-fn code_of(alloc: Global, text: &[u8]) -> Result<Vec<u8>, TextFault> {
-    let Assembly {
-        statements: _,
-        lines: _,
-        image,
-    } = assemble(alloc, BOOTED, text)?;
-    let Image { bytes, starts: _ } = image;
-    Ok(bytes)
 }
 
 // An answer without the line feed at its end, or a fault in words.

@@ -250,7 +250,7 @@ fn option_of<'a>(alloc: Global, argument: ArgumentWords) -> Arg<'a> {
     word_of(alloc, argument).long(argument.name)
 }
 
-fn number_of<'a>(alloc: Global, argument: ArgumentWords) -> Arg<'a> {
+fn number_option<'a>(alloc: Global, argument: ArgumentWords) -> Arg<'a> {
     option_of(alloc, argument).value_parser(value_parser!(u64))
 }
 
@@ -285,8 +285,8 @@ pub(crate) fn arg_of<'a>(alloc: Global, argument: Argument) -> Arg<'a> {
         Form::Word => option_of(alloc, argument),
         Form::Words => option_of(alloc, argument).action(ArgAction::Append),
         Form::Pairs => pairs_of(alloc, argument),
-        Form::Number => number_of(alloc, argument),
-        Form::NumberOr(usual) => number_of(alloc, argument).default_value(usual),
+        Form::Number => number_option(alloc, argument),
+        Form::NumberOr(usual) => number_option(alloc, argument).default_value(usual),
         Form::Domain => domain_of(alloc, argument),
         Form::Flag => flag_of(alloc, argument),
         Form::Required => word_of(alloc, argument).required(true),

@@ -36,7 +36,7 @@ impl<'a> TerminalMeter<'a> {
 
     // Writes how many Steps were done over what was written before.
     fn tell(&mut self) {
-        if let Ok(text) = format!(in self.rt.alloc(); "\r{} Steps\x1b[K", self.bound.done()) {
+        if let Ok(text) = format!(in self.rt.alloc(); "\r{} Steps\x1b[K", self.bound.steps_done()) {
             let _ = write_whole(&mut self.rt.stderr(), text.as_bytes());
             self.is_shown = true;
         }

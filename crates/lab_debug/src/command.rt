@@ -201,14 +201,14 @@ impl CommandFault<'_> {
             text.push("?)");
         }
         text.push(": try ");
-        text.push(self.verb.written());
+        text.push(self.verb.usage());
         text.push("\n");
     }
 }
 
 impl FirstWord {
     // How the command is written.
-    fn written(self) -> &'static str {
+    fn usage(self) -> &'static str {
         match self {
             FirstWord::Events => "events [FROM [COUNT]]",
             FirstWord::Go => "go N",
@@ -263,7 +263,7 @@ impl FirstWord {
 /// Writes how each command is written, and what it does.
 pub fn write_help(text: &mut TextWriter) {
     for (_, verb) in &FIRST_WORDS {
-        text.push(verb.written());
+        text.push(verb.usage());
         text.push(": ");
         text.push(verb.does());
         text.push("\n");
@@ -349,7 +349,7 @@ impl<'a> CommandWords<'a> {
     }
 
     // What comes after `until`.
-    fn sought(&mut self) -> Result<Sought<'a>, Mistake> {
+    fn take_sought(&mut self) -> Result<Sought<'a>, Mistake> {
         self.verb = FirstWord::Until;
         match value_named(&SOUGHT_WORDS, self.word()?) {
             Some(SoughtWord::Fault) => Ok(Sought::Fault),
@@ -407,7 +407,7 @@ impl<'a> CommandWords<'a> {
         let mut ahead = *self;
         if ahead.next_word() == Some("until") {
             self.rest = ahead.rest;
-            return Ok(DebugCommand::BackUntil(self.sought()?));
+            return Ok(DebugCommand::BackUntil(self.take_sought()?));
         }
         Ok(DebugCommand::Back(self.number_or(1)?))
     }
@@ -482,7 +482,7 @@ impl<'a> CommandWords<'a> {
             FirstWord::Next => Ok(DebugCommand::Next(self.number_or(1)?)),
             FirstWord::Trace => self.trace(),
             FirstWord::Back => self.back(),
-            FirstWord::Until => Ok(DebugCommand::Until(self.sought()?)),
+            FirstWord::Until => Ok(DebugCommand::Until(self.take_sought()?)),
             FirstWord::Look => Ok(DebugCommand::Look),
             FirstWord::Registers => Ok(DebugCommand::Registers(self.small()?)),
             FirstWord::Memory => self.memory(),

@@ -76,8 +76,8 @@ impl<'a> Debugger<'a> {
     }
 
     /// How many events were done up to the moment that is shown.
-    pub fn recorded(&self) -> u64 {
-        self.timeline.here().recorded()
+    pub fn recorded_events(&self) -> u64 {
+        self.timeline.here().recorded_events()
     }
 
     /// Writes what is said at the beginning.
@@ -223,7 +223,7 @@ impl<'a> Debugger<'a> {
         text: &mut TextWriter,
     ) -> Result<(), FollowFault> {
         self.show_next(line, only, text)?;
-        let next = self.recorded().saturating_add(1);
+        let next = self.recorded_events().saturating_add(1);
         self.timeline.go(next)
     }
 
@@ -367,7 +367,7 @@ impl<'a> Debugger<'a> {
 
     // Goes to the next or the last moment that is looked for, or stays if there is none. Whether there is one.
     fn seek(&mut self, goal: Goal, direction: Direction) -> Result<bool, FollowFault> {
-        let recorded = self.recorded();
+        let recorded = self.recorded_events();
         let found = match direction {
             Direction::On => seek(&mut self.timeline, goal),
             Direction::Back => seek_back(&mut self.timeline, goal),
@@ -514,7 +514,7 @@ impl<'a> Debugger<'a> {
 
     // Does a command that goes to a moment, or one that stays.
     fn travel(&mut self, command: DebugCommand, text: &mut TextWriter) -> Result<(), FollowFault> {
-        let recorded = self.recorded();
+        let recorded = self.recorded_events();
         match command {
             DebugCommand::Go(event) => self.go_to(event, text),
             DebugCommand::Next(count) => self.go_to(recorded.saturating_add(count), text),

@@ -57,7 +57,7 @@ fn write_line(line: &RecordedLine, first: u64, text: &mut TextWriter) {
 
 // Writes `count` lines of the record, from the one with the event `from` on. The line of the next event is marked.
 fn write_lines(timeline: &Timeline, from: u64, count: u64, text: &mut TextWriter) {
-    let next = timeline.here().recorded().saturating_add(1);
+    let next = timeline.here().recorded_events().saturating_add(1);
     let mut first: u64 = 1;
     let mut left = count;
     for line in timeline.lines() {
@@ -84,7 +84,7 @@ fn write_lines(timeline: &Timeline, from: u64, count: u64, text: &mut TextWriter
 
 // The first event of the line that is `before` lines before the one with the next event, or of the first line.
 fn events_around(timeline: &Timeline, before: usize) -> u64 {
-    let next = timeline.here().recorded().saturating_add(1);
+    let next = timeline.here().recorded_events().saturating_add(1);
     let mut first: u64 = 1;
     let mut index: usize = 0;
     for line in timeline.lines() {
@@ -104,7 +104,7 @@ fn events_around(timeline: &Timeline, before: usize) -> u64 {
 
 /// Writes how many events were done, and the last of them.
 pub fn write_place(timeline: &Timeline, text: &mut TextWriter) {
-    let recorded = timeline.here().recorded();
+    let recorded = timeline.here().recorded_events();
     text.push("after ");
     text.push_decimal(recorded);
     text.push(" of ");
@@ -291,7 +291,7 @@ fn write_host(host: &Host, text: &mut TextWriter) {
     text.push(": to send ");
     write_bytes(host.sending(), text);
     text.push(", received ");
-    write_bytes(host.received(), text);
+    write_bytes(host.received_bytes(), text);
     text.push(", waits to leave: ");
     write_packet(text, host.waiting());
     text.push("\n");

@@ -107,7 +107,7 @@ fn write_text<W: Write>(text: TextWriter, output: &mut W) -> Result<(), DebugFau
 // Writes the prompt before a command: how many events were done.
 fn prompt<W: Write>(alloc: Global, debugger: &Debugger, output: &mut W) -> Result<(), DebugFault> {
     let mut text = TextWriter::new(alloc);
-    text.push_decimal(debugger.recorded());
+    text.push_decimal(debugger.recorded_events());
     text.push("> ");
     write_text(text, output)
 }

@@ -80,7 +80,7 @@ fn is_jump(before: Option<u32>, after: Option<u32>) -> bool {
 }
 
 // What is seen of a goal at the moment that is shown.
-fn seen(timeline: &Timeline, goal: Goal) -> Result<Option<u32>, AllocError> {
+fn step_that_meets(timeline: &Timeline, goal: Goal) -> Result<Option<u32>, AllocError> {
     let Some(number) = goal.node() else {
         return Ok(None);
     };
@@ -109,7 +109,7 @@ fn moves_byte(timeline: &mut Timeline, goal: Goal, event: Event) -> bool {
 
 // Whether the last event was a fault, or a loss, if that is looked for.
 fn was_noted(timeline: &Timeline, goal: Goal) -> bool {
-    let (past, event) = (timeline.here().past(), timeline.here().recorded());
+    let (past, event) = (timeline.here().past(), timeline.here().recorded_events());
     match goal {
         Goal::Fault => is_fault(past, event),
         Goal::Lost => is_loss(past, event),
@@ -162,17 +162,17 @@ fn steps_to(goal: Goal, node: &Node, most: u64, taken: Taken) -> Result<Option<u
 
 // Does one event. Which one it is, if it is looked for.
 fn pass_one(timeline: &mut Timeline, goal: Goal, event: Event) -> Result<Option<u64>, FollowFault> {
-    let before = seen(timeline, goal)?;
+    let before = step_that_meets(timeline, goal)?;
     let is_byte = moves_byte(timeline, goal, event);
-    let next = timeline.here().recorded().saturating_add(1);
+    let next = timeline.here().recorded_events().saturating_add(1);
     timeline.go(next)?;
-    let after = seen(timeline, goal)?;
+    let after = step_that_meets(timeline, goal)?;
     let is_step = match event {
         Event::Step(node) => goal.node() == Some(node),
         _ => false,
     };
     if is_byte || goal.is_met(before, after, is_step) || was_noted(timeline, goal) {
-        return Ok(Some(timeline.here().recorded()));
+        return Ok(Some(timeline.here().recorded_events()));
     }
     Ok(None)
 }
@@ -186,7 +186,7 @@ fn pass_steps(
     times: u64,
     taken: Taken,
 ) -> Result<Option<u64>, FollowFault> {
-    let recorded = timeline.here().recorded();
+    let recorded = timeline.here().recorded_events();
     let found = match timeline.here().node(number) {
         Some(node) if goal.node() == Some(number) => steps_to(goal, node, times, taken)?,
         _ => None,
@@ -226,8 +226,8 @@ fn look_through(
     taken: Taken,
 ) -> Result<Option<u64>, FollowFault> {
     let mut found = None;
-    for _ in timeline.here().recorded()..last {
-        let left = last.saturating_sub(timeline.here().recorded());
+    for _ in timeline.here().recorded_events()..last {
+        let left = last.saturating_sub(timeline.here().recorded_events());
         let Some(line) = timeline.upcoming() else {
             break;
         };
@@ -247,7 +247,7 @@ pub fn seek(timeline: &mut Timeline, goal: Goal) -> Result<bool, FollowFault> {
 
 /// Goes back from the moment that is shown to the last event before it that is looked for, and returns whether there is one.
 pub fn seek_back(timeline: &mut Timeline, goal: Goal) -> Result<bool, FollowFault> {
-    let mut last = timeline.here().recorded().saturating_sub(1);
+    let mut last = timeline.here().recorded_events().saturating_sub(1);
     for _ in 0..last {
         if last == 0 {
             break;

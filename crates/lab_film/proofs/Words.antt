@@ -1,4 +1,4 @@
--- The words of the outputs, one after another: the clause `words` of `words_of`.
+-- The words of the outputs, one after another: the clause `words` of `switch_words`.
 use Rattle.std.proofs.Common.{◌≡◌, ℕ, ◌+◌, List, [], ◌∷◌, ◌++◌, take, ap, sym, ◌∙◌}
 use Rattle.std.specs.Prelude.{slice_get, Some}
 use Rattle.std.proofs.lemmas.List.{take_more}

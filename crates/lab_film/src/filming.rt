@@ -168,7 +168,7 @@ fn follow_to<M: StepMeter>(
     meter: &mut M,
 ) -> Result<(), RecordStop> {
     for _ in 0..lines.len() {
-        let left = from.saturating_sub(progress.follower.recorded());
+        let left = from.saturating_sub(progress.follower.recorded_events());
         if left == 0 {
             break;
         }

@@ -89,7 +89,7 @@ fn frame_of_host(alloc: Global, host: &Host) -> Result<HostFrame, NoMemory>
 {
     Ok(HostFrame {
         sending: bytes_of(alloc, host.sending())?,
-        received: bytes_of(alloc, host.received())?,
+        received: bytes_of(alloc, host.received_bytes())?,
     })
 }
 
@@ -134,7 +134,7 @@ fn workspace_word(node: &Node, offset: u32) -> Option<u32>
 }
 
 // A process that waits for the processor.
-fn queued(memory: &Memory, workspace: u32) -> Option<Process>
+fn process_in_queue(memory: &Memory, workspace: u32) -> Option<Process>
     ensures { result ≡ queued memory.now workspace }
 {
     match word_in(memory, workspace.wrapping_sub(4)) {
@@ -153,7 +153,7 @@ fn queued_first(memory: &Memory, queue: Queue) -> Option<Process>
     if queue.front == NOT_PROCESS {
         None
     } else {
-        queued(memory, queue.front)
+        process_in_queue(memory, queue.front)
     }
 }
 
@@ -165,7 +165,7 @@ fn queued_behind(memory: &Memory, queue: Queue, before: Process) -> Option<Proce
         return None;
     }
     match word_in(memory, before.workspace.wrapping_sub(LINK_BELOW)) {
-        Some(workspace) => queued(memory, workspace),
+        Some(workspace) => process_in_queue(memory, workspace),
         None => None,
     }
 }
@@ -239,7 +239,7 @@ fn node_at(follower: &Follower, number: u8) -> Option<NodeFrame>
 
 // The switch words of the outputs.
 #[tactic(auto, using(crate::proofs::Words::next_word))]
-fn words_of(alloc: Global, follower: &mut Follower) -> Result<Vec<Word>, NoMemory>
+fn switch_words(alloc: Global, follower: &mut Follower) -> Result<Vec<Word>, NoMemory>
     ensures words { IfOk result (λ words. words.items ≡ take follower.old.machine.part.count follower.old.machine.switch.words) }
     ensures unchanged { follower.new ≡ follower.old }
 {
@@ -286,8 +286,8 @@ pub fn frame_of(alloc: Global, follower: &mut Follower) -> Result<Frame, NoMemor
     ensures unchanged { follower.new ≡ follower.old }
 {
     Ok(Frame {
-        recorded: follower.recorded(),
-        words: words_of(alloc, follower)?,
+        recorded: follower.recorded_events(),
+        words: switch_words(alloc, follower)?,
         nodes: nodes_of(follower),
         hosts: hosts_of(alloc, follower)?,
     })

@@ -61,7 +61,7 @@ struct OperationTold {
     name: String,
 }
 
-fn users_of(alloc: Global, plan: &AcceptedPlan) -> Result<Vec<String>, NoMemory>
+fn user_names(alloc: Global, plan: &AcceptedPlan) -> Result<Vec<String>, NoMemory>
     requires { 0 < length plan.now }
 {
     let mut users = Vec::new(alloc);
@@ -157,7 +157,7 @@ pub fn plan_told(alloc: Global, plan: &AcceptedPlan) -> Result<PlanTold, NoMemor
     let part = plan.part(0);
     Ok(PlanTold {
         limit: part.limit(),
-        users: users_of(alloc, plan)?,
+        users: user_names(alloc, plan)?,
         nodes: memories_of(alloc, part.nodes())?,
         hosts: owners_of(alloc, part.hosts())?,
         ports: ports_of(alloc, plan)?,

@@ -6,9 +6,7 @@ use occam::{LARGEST_MEMORY, OccamFault, OccamProgram, bytes_at, compile};
 use script_text::TextWriter;
 use std::alloc::{AllocError, Global};
 use std::fmt;
-use t414_assembly::{
-    Assembly, BOOTED, Image, LOADED, LayoutFault, MOST_CODE, TextFault, assemble, loader, pokes,
-};
+use t414_assembly::{BOOTED, LOADED, LayoutFault, MOST_CODE, TextFault, assemble, loader, pokes};
 
 /// Why a program isn't loaded.
 #[derive(Drop)]
@@ -92,20 +90,8 @@ fn code_at(alloc: Global, origin: u32, name: &str, text: &[u8]) -> Result<Vec<u8
     if is_occam_file(name) {
         compiled_code(alloc, origin, text)
     } else {
-        assembled_code(alloc, origin, text)
+        Ok(assemble(alloc, origin, text)?.into_code())
     }
-}
-
-fn assembled_code(alloc: Global, origin: u32, text: &[u8]) -> Result<Vec<u8>, LoadFault>
-    requires { origin ≤ 0xffff_0000 }
-{
-    let Assembly {
-        statements: _,
-        lines: _,
-        image,
-    } = assemble(alloc, origin, text)?;
-    let Image { bytes, starts: _ } = image;
-    Ok(bytes)
 }
 
 fn compiled_code(alloc: Global, origin: u32, text: &[u8]) -> Result<Vec<u8>, LoadFault>

@@ -119,9 +119,9 @@ impl Keeping {
         ensures less { IfOk result (λ reply. here.new.rest.times < here.old.rest.times) }
         ensures next { IfOk result (λ reply. here.new.next ≡ here.old.next) }
     {
-        let before = here.follower.recorded();
+        let before = here.follower.recorded_events();
         let outcome = here.go_on(self.most(), meter)?;
-        self.note(here, work_of(here.follower.recorded() - before))?;
+        self.note(here, work_of(here.follower.recorded_events() - before))?;
         Ok(outcome.reply)
     }
 
@@ -181,7 +181,7 @@ fn nearest<'b>(opening: &'b Progress, kept: &'b [Progress], event: u64) -> &'b P
 {
     let mut found = opening;
     for progress in kept {
-        if progress.follower.recorded() <= event {
+        if progress.follower.recorded_events() <= event {
             found = progress;
         }
     }
@@ -195,8 +195,8 @@ fn begin(here: &mut Progress, is_led: bool, near: &Progress, event: u64) -> Resu
     ensures progress { OnOk result (Begins is_led here.old near.now here.new) }
     ensures before { OnOk result (here.new.follower.recorded ≤ event) }
 {
-    let recorded = here.follower.recorded();
-    if is_led && recorded <= event && recorded >= near.follower.recorded() {
+    let recorded = here.follower.recorded_events();
+    if is_led && recorded <= event && recorded >= near.follower.recorded_events() {
         return Ok(());
     }
     *here = near.copy()?;
@@ -235,7 +235,7 @@ impl<'a> Timeline<'a> {
             plan,
             lines,
             is_cut,
-            events: here.follower.recorded(),
+            events: here.follower.recorded_events(),
             opening,
             kept,
             here,
@@ -304,7 +304,7 @@ impl<'a> Timeline<'a> {
     {
         nearest(&self.opening, self.kept.as_slice(), event)
             .follower
-            .recorded()
+            .recorded_events()
     }
 
     /// Goes to the moment after the first `event` events of the record, or to its end if it has fewer. After an error

@@ -30,9 +30,9 @@ pub fn answer_line<R: Wait>(
     ensures list { GainsSome session.old session.new }
     ensures line { OnOk result (IsAnswered name.now command.now session.old session.new (string_bytes screen.old) (string_bytes screen.new)) }
 {
-    let before = session.told().len();
+    let before = session.commands().len();
     let ended = ask_line(rt, alloc, session, quantum, command);
-    write_line(screen, name, command, &session.told()[before..], ended)
+    write_line(screen, name, command, &session.commands()[before..], ended)
 }
 
 /// Answers a user's lines in the user's session, one after another on the user's screen, which is empty. After each

@@ -74,7 +74,7 @@ pub fn tell_wrong_line(
     fault: LineFault,
 ) -> Result<String, AllocError> {
     let mut text = TextWriter::new(alloc);
-    let words = words_of(alloc, line.text)?;
+    let words = words_in_line(alloc, line.text)?;
     write_wrong_line(
         &mut text,
         names,
@@ -84,7 +84,7 @@ pub fn tell_wrong_line(
     text.finish()
 }
 
-fn words_of(alloc: Global, line: &[u8]) -> Result<Vec<&[u8]>, AllocError> {
+fn words_in_line(alloc: Global, line: &[u8]) -> Result<Vec<&[u8]>, AllocError> {
     let mut words = Vec::new(alloc);
     let mut left = LineWords::of(line);
     while let Some(word) = left.take() {

@@ -5,12 +5,10 @@ ghost use Rattle.live_lines.specs.LiveRanges.{IsInRange};
 
 use clap::error::ErrorKind;
 use farm_service::{Histories, Room};
-use live_farm::{
-    FileRecords, LiveFailure, LiveOutputs, Notices, Outlet, RecordFolder, SharedOutlet, no_records,
-    run_live,
-};
+use live_farm::{LiveFailure, LiveOutputs, Outlet, SharedOutlet, run_live};
 use live_lines::{LiveSettings, live_settings};
 use plan_checker::{AcceptedPlan, accept_plan};
+use record_files::{FileFailure, FileRecords, Notices, RecordFolder, no_records};
 use script_text::{ReadFault, read_whole, write_whole};
 use std::fs::File;
 use std::io::{self, BufRead, BufReader};
@@ -59,7 +57,10 @@ fn serve<R: Threads + Wait + Sync, I: BufRead + Send, O: SharedOutlet + Sync, N:
     let alloc = files.alloc();
     let Start { settings, plan } = start;
     let folder = match &settings.records {
-        Some(records) => Some(RecordFolder::open(files, alloc, records)?),
+        Some(records) => {
+            let path = records.path.as_str();
+            Some(RecordFolder::open(files, alloc, path, records.syncs)?)
+        }
         None => None,
     };
     let room = Room::of(settings.room);
@@ -79,7 +80,7 @@ fn serve<R: Threads + Wait + Sync, I: BufRead + Send, O: SharedOutlet + Sync, N:
 }
 
 // The words of the command line.
-fn words_of(rt: &HostRuntime) -> Result<Vec<String>, LiveFailure> {
+fn command_words(rt: &HostRuntime) -> Result<Vec<String>, LiveFailure> {
     match env::args(rt) {
         Ok(words) => Ok(words.collect(rt.alloc())?),
         Err(error) => Err(LiveFailure::of_arguments(&error)),
@@ -88,7 +89,7 @@ fn words_of(rt: &HostRuntime) -> Result<Vec<String>, LiveFailure> {
 
 // The settings and the plan that the words ask for. If they ask for the help alone, it is written.
 fn start_of(rt: &HostRuntime) -> Result<Option<Start>, LiveFailure> {
-    let words = words_of(rt)?;
+    let words = command_words(rt)?;
     match live_settings(rt.alloc(), words.as_slice()) {
         Ok(settings) => {
             let plan = plan_in(rt, settings.path.as_str())?;
@@ -116,18 +117,23 @@ fn help(rt: &HostRuntime, error: clap::Error) -> Result<(), LiveFailure> {
     }
 }
 
+// That a call of the system on a file failed.
+fn file_failure(rt: &HostRuntime, path: &str, error: io::Error) -> LiveFailure {
+    LiveFailure::from(FileFailure::of_file(rt.alloc(), path, error))
+}
+
 // The bytes of a file.
 fn bytes_in(rt: &HostRuntime, path: &str) -> Result<Vec<u8>, LiveFailure> {
     let mut file = match fs::open(rt, path) {
         Ok(file) => file,
-        Err(error) => return Err(LiveFailure::of_file(rt.alloc(), path, error)),
+        Err(error) => return Err(file_failure(rt, path, error)),
     };
     match read_whole(rt.alloc(), &mut file) {
         Ok(bytes) => Ok(bytes),
         Err(ReadFault::NoMemory) => Err(LiveFailure::Memory),
         Err(ReadFault::Failed) => {
             let error = io::Error::other("a read failed");
-            Err(LiveFailure::of_file(rt.alloc(), path, error))
+            Err(file_failure(rt, path, error))
         }
     }
 }

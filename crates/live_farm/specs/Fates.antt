@@ -11,8 +11,8 @@ use Rattle.live_lines.specs.declared.fault.LiveFault.TheVariants as live_fault
 use Rattle.live_lines.specs.LiveLines.{is_operators, IsLiveLine, IsLiveFault}
 use Rattle.live_farm.specs.declared.fate.LineFate.{LineFate}
 use Rattle.live_farm.specs.declared.fate.LineFate.TheVariants as fate
-use Rattle.live_farm.specs.declared.texts.Why.{Why}
-use Rattle.live_farm.specs.declared.texts.Why.TheVariants as why
+use Rattle.live_farm.specs.declared.texts.NotDone.{NotDone}
+use Rattle.live_farm.specs.declared.texts.NotDone.TheVariants as why
 
 -- ---- a line that is known whole
 
@@ -52,7 +52,7 @@ IsWhose names beginning None = (user : ℕ) → ¬ IsCalledBy names beginning us
 IsWhose names beginning (Some user) = IsCalledBy names beginning user
 
 -- who is answered, for this reason, if it is no comment
-abbrev pub IsBeginningRefused : List (List ℕ) → List ℕ → Why → LineFate → Type 0
+abbrev pub IsBeginningRefused : List (List ℕ) → List ℕ → NotDone → LineFate → Type 0
 IsBeginningRefused names beginning w (fate.OperatorRefused reason) = (reason ≡ w) × (is_operators beginning ≡ true)
 IsBeginningRefused names beginning w (fate.Refused user reason) =
     (reason ≡ w) × (is_operators beginning ≡ false) × IsCalledBy names beginning user
@@ -61,7 +61,7 @@ IsBeginningRefused names beginning w fate.Nobodys =
 IsBeginningRefused names beginning w other = ⊥
 
 -- only a comment is passed over
-abbrev pub IsFateOfBeginning : List (List ℕ) → List ℕ → Why → LineFate → Type 0
+abbrev pub IsFateOfBeginning : List (List ℕ) → List ℕ → NotDone → LineFate → Type 0
 IsFateOfBeginning names beginning w fate.PassedOver = begins_comment beginning ≡ true
 IsFateOfBeginning names beginning w other =
     (begins_comment beginning ≡ false) × IsBeginningRefused names beginning w other

@@ -11,15 +11,15 @@ use Rattle.script_lines.specs.declared.fault.LineFault.TheVariants as fault
 use Rattle.farm_service.specs.Restarts.{begun_anew}
 use Rattle.live_lines.specs.declared.asked.WholeRequest.TheVariants as whole
 use Rattle.live_lines.specs.declared.asked.LiveRequest.TheVariants as request
+use Rattle.live_farm.specs.declared.answering.LetterAnswer.{LetterAnswer}
 use Rattle.live_farm.specs.declared.group.DomainUsers.{DomainUsers}
 use Rattle.live_farm.specs.declared.letter.Letter.{Letter}
 use Rattle.live_farm.specs.declared.letter.Matter.{Matter}
 use Rattle.live_farm.specs.declared.letter.Matter.TheVariants as matter
 use Rattle.live_farm.specs.declared.record.RecordState.{RecordState}
 use Rattle.live_farm.specs.declared.record.RecordState.TheVariants as state
-use Rattle.live_farm.specs.declared.texts.LiveAnswer.{LiveAnswer}
-use Rattle.live_farm.specs.declared.texts.Why.{Why}
-use Rattle.live_farm.specs.declared.texts.Why.TheVariants as why
+use Rattle.live_farm.specs.declared.texts.NotDone.{NotDone}
+use Rattle.live_farm.specs.declared.texts.NotDone.TheVariants as why
 use Rattle.live_farm.specs.Asking.{commands_asked}
 use Rattle.live_farm.specs.Whys.{IsToldOf}
 use Rattle.live_farm.specs.LiveTexts.{error_text, rest_text, rest_state_of, restart_text, why_text, no_node_text, operator_restart_text}
@@ -102,7 +102,7 @@ AnswersOperator before after user number done text =
     ≡ (if done then operator_restart_text name.now else error_text (codes "!") number (why.Fault fault.User)))
 
 -- a wrong line asks nothing, and its user is answered why it is wrong
-abbrev pub AnswersWrong : DomainUsers → DomainUsers → ℕ → ℕ → Why → List ℕ → Type 0
+abbrev pub AnswersWrong : DomainUsers → DomainUsers → ℕ → ℕ → NotDone → List ℕ → Type 0
 AnswersWrong before after user number w text =
     (name : Bor (List ℕ)) × IsNamedSo before user name × (text ≡ error_text name.now number w)
     × AllStay before after
@@ -123,9 +123,10 @@ AnswersMatter before after user number matter.OperatorRestart anew text =
     AnswersOperator before after user number anew text
 
 -- what a letter is answered
-abbrev pub AnswersLetter : DomainUsers → DomainUsers → Letter → LiveAnswer → Type 0
+abbrev pub AnswersLetter : DomainUsers → DomainUsers → Letter → LetterAnswer → Type 0
 AnswersLetter before after letter answer =
-    AnswersMatter before after letter.user letter.number letter.matter answer.begins_anew (string_bytes answer.text)
+    AnswersMatter before after letter.user letter.number letter.matter answer.begins_anew
+    (string_bytes answer.lines.text)
 
 -- after an error nobody's session has changed; but a line of a script may have asked a part of what it says
 abbrev pub StaysAfterError : DomainUsers → DomainUsers → Matter → Type 0

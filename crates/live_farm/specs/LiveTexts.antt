@@ -7,11 +7,11 @@ use Rattle.script_lines.specs.Faults.{fault_word}
 use Rattle.farm_service.specs.declared.status.DomainStatus.{DomainStatus}
 use Rattle.live_farm.specs.declared.texts.RestState.{RestState}
 use Rattle.live_farm.specs.declared.texts.RestState.TheVariants as rest
-use Rattle.live_farm.specs.declared.texts.Why.{Why}
-use Rattle.live_farm.specs.declared.texts.Why.TheVariants as why
+use Rattle.live_farm.specs.declared.texts.NotDone.{NotDone}
+use Rattle.live_farm.specs.declared.texts.NotDone.TheVariants as why
 
 -- why a line isn't done
-abbrev pub reason_word : Why → List ℕ
+abbrev pub reason_word : NotDone → List ℕ
 reason_word (why.Fault fault) = fault_word fault
 reason_word why.Long = codes "long"
 reason_word why.Busy = codes "busy"
@@ -21,7 +21,7 @@ reason_word why.Full = codes "full"
 reason_word why.Memory = codes "memory"
 
 -- a line of this number isn't done; the operator is called `!`
-abbrev pub error_text : List ℕ → ℕ → Why → List ℕ
+abbrev pub error_text : List ℕ → ℕ → NotDone → List ℕ
 error_text name number w = name ++ codes " error " ++ decimal number ++ codes " " ++ reason_word w ++ codes "\n"
 
 -- the line of this number is no user's

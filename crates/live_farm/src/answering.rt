@@ -12,8 +12,8 @@ use crate::causes::explain_domain;
 use crate::group::DomainUsers;
 use crate::letter::{Letter, Matter};
 use crate::texts::{
-    LiveAnswer, RestState, Why, error_answer, no_node_answer, operator_restart_answer, rest_answer,
-    restart_answer, why_answer,
+    LiveAnswer, NotDone, RestState, error_answer, no_node_answer, operator_restart_answer,
+    rest_answer, restart_answer, why_answer,
 };
 use domain_core::{NoMemory, Refusal};
 use farm_service::DomainStatus;
@@ -23,6 +23,39 @@ use record_following::FollowFault;
 use script_lines::{Command, LineFault};
 use std::alloc::Global;
 use std::sync::Wait;
+
+/// What a letter is answered, and whether the domain began again by it.
+#[derive(Drop)]
+pub struct LetterAnswer {
+    /// What is written.
+    pub lines: LiveAnswer,
+    /// Whether the domain began again, so that its record does too.
+    pub begins_anew: bool,
+}
+
+impl LetterAnswer {
+    /// The answer to what doesn't begin the domain again.
+    pub(crate) fn of_line(lines: LiveAnswer) -> LetterAnswer
+        ensures lines { result.lines ≡ lines }
+        ensures anew { result.begins_anew ≡ false }
+    {
+        LetterAnswer {
+            lines,
+            begins_anew: false,
+        }
+    }
+
+    // The answer to a restart that is done.
+    fn of_restart(lines: LiveAnswer) -> LetterAnswer
+        ensures lines { result.lines ≡ lines }
+        ensures anew { result.begins_anew ≡ true }
+    {
+        LetterAnswer {
+            lines,
+            begins_anew: true,
+        }
+    }
+}
 
 impl DomainUsers<'_> {
     // The output line of a user's line.
@@ -58,13 +91,14 @@ impl DomainUsers<'_> {
         alloc: Global,
         user: usize,
         command: &Command,
-    ) -> Result<LiveAnswer, NoMemory>
+    ) -> Result<LetterAnswer, NoMemory>
         requires { user < length self.old.sessions.items }
-        ensures line { IfOk result (λ a. AnswersLine self.old self.new user command.now (string_bytes a.text)) }
+        ensures line { IfOk result (λ a. AnswersLine self.old self.new user command.now (string_bytes a.lines.text)) }
         ensures anew { IfOk result (λ a. a.begins_anew ≡ false) }
         ensures same { IsSameDomain self.old self.new }
     {
-        Ok(LiveAnswer::of(self.line_of(rt, alloc, user, command)?))
+        let text = self.line_of(rt, alloc, user, command)?;
+        Ok(LetterAnswer::of_line(LiveAnswer::of(text)))
     }
 
     /// Settles the domain as after a line of a script. A refusal is nobody's fault.
@@ -131,13 +165,14 @@ impl DomainUsers<'_> {
         rt: &R,
         alloc: Global,
         user: usize,
-    ) -> Result<LiveAnswer, NoMemory>
+    ) -> Result<LetterAnswer, NoMemory>
         requires { user < length self.now.sessions.items }
-        ensures rest { IfOk result (λ a. AnswersRest self.now user (string_bytes a.text)) }
+        ensures rest { IfOk result (λ a. AnswersRest self.now user (string_bytes a.lines.text)) }
         ensures anew { IfOk result (λ a. a.begins_anew ≡ false) }
     {
         self.settle(rt, alloc, user)?;
-        rest_answer(alloc, self.name(user), self.rest_state(rt))
+        let lines = rest_answer(alloc, self.name(user), self.rest_state(rt))?;
+        Ok(LetterAnswer::of_line(lines))
     }
 
     // Begins the domain again for a user who is alone in it. Both texts are made before that, so after an error nothing has changed.
@@ -146,22 +181,47 @@ impl DomainUsers<'_> {
         rt: &R,
         alloc: Global,
         user: usize,
-    ) -> Result<LiveAnswer, NoMemory>
+    ) -> Result<LetterAnswer, NoMemory>
         requires { user < length self.old.sessions.items }
-        ensures restart { IfOk result (λ a. AnswersRestart self.old self.new user a.begins_anew (string_bytes a.text)) }
+        ensures restart { IfOk result (λ a. AnswersRestart self.old self.new user a.begins_anew (string_bytes a.lines.text)) }
         ensures err { OnErr result (self.new ≡ self.old) }
         ensures same { IsSameDomain self.old self.new }
     {
         let name = self.name(user);
         let refused = restart_answer(alloc, name, false)?;
         if self.users() != 1 {
-            return Ok(refused);
+            return Ok(LetterAnswer::of_line(refused));
         }
         let done = restart_answer(alloc, name, true)?;
-        if self.begin_anew(rt) {
-            Ok(done)
+        Ok(if self.begin_anew(rt) {
+            LetterAnswer::of_restart(done)
         } else {
-            Ok(refused)
+            LetterAnswer::of_line(refused)
+        })
+    }
+
+    // Why the nodes of the domain, or one of them, do no more than they do.
+    fn lines_of_why<R: Wait>(
+        &self,
+        rt: &R,
+        alloc: Global,
+        user: usize,
+        number: u64,
+        node: Option<u8>,
+    ) -> Result<LiveAnswer, NoMemory>
+        requires { user < length self.now.sessions.items }
+        ensures { IfOk result (λ lines. AnswersWhy self.now user number node (string_bytes lines.text)) }
+    {
+        let name = self.name(user);
+        if let Some(node) = node
+            && !self.has_node(node)
+        {
+            return no_node_answer(alloc, name, node);
+        }
+        match explain_domain(rt, alloc, self, self.status(rt), node) {
+            Ok(told) => why_answer(alloc, name, told.as_str()),
+            Err(FollowFault::Memory(_)) => Err(NoMemory),
+            Err(_) => error_answer(alloc, name, number, NotDone::Journal),
         }
     }
 
@@ -173,22 +233,13 @@ impl DomainUsers<'_> {
         user: usize,
         number: u64,
         node: Option<u8>,
-    ) -> Result<LiveAnswer, NoMemory>
+    ) -> Result<LetterAnswer, NoMemory>
         requires { user < length self.now.sessions.items }
-        ensures why { IfOk result (λ a. AnswersWhy self.now user number node (string_bytes a.text)) }
+        ensures why { IfOk result (λ a. AnswersWhy self.now user number node (string_bytes a.lines.text)) }
         ensures anew { IfOk result (λ a. a.begins_anew ≡ false) }
     {
-        let name = self.name(user);
-        if let Some(node) = node
-            && !self.has_node(node)
-        {
-            return no_node_answer(alloc, name, node);
-        }
-        match explain_domain(rt, alloc, self, self.status(rt), node) {
-            Ok(told) => why_answer(alloc, name, told.as_str()),
-            Err(FollowFault::Memory(_)) => Err(NoMemory),
-            Err(_) => error_answer(alloc, name, number, Why::Journal),
-        }
+        let lines = self.lines_of_why(rt, alloc, user, number, node)?;
+        Ok(LetterAnswer::of_line(lines))
     }
 
     // Begins the domain again for the operator, who names one of its users in the line of this number. Both texts are made before
@@ -199,20 +250,20 @@ impl DomainUsers<'_> {
         alloc: Global,
         user: usize,
         number: u64,
-    ) -> Result<LiveAnswer, NoMemory>
+    ) -> Result<LetterAnswer, NoMemory>
         requires { user < length self.old.sessions.items }
-        ensures operator { IfOk result (λ a. AnswersOperator self.old self.new user number a.begins_anew (string_bytes a.text)) }
+        ensures operator { IfOk result (λ a. AnswersOperator self.old self.new user number a.begins_anew (string_bytes a.lines.text)) }
         ensures err { OnErr result (self.new ≡ self.old) }
         ensures same { IsSameDomain self.old self.new }
     {
         let name = self.name(user);
         let done = operator_restart_answer(alloc, name)?;
-        let refused = error_answer(alloc, "!", number, Why::Fault(LineFault::User))?;
-        if self.begin_anew(rt) {
-            Ok(done)
+        let refused = error_answer(alloc, "!", number, NotDone::Fault(LineFault::User))?;
+        Ok(if self.begin_anew(rt) {
+            LetterAnswer::of_restart(done)
         } else {
-            Ok(refused)
-        }
+            LetterAnswer::of_line(refused)
+        })
     }
 }
 
@@ -227,7 +278,7 @@ pub fn answer_letter<R: Wait>(
     alloc: Global,
     group: &mut DomainUsers<'_>,
     letter: &Letter,
-) -> Result<LiveAnswer, NoMemory>
+) -> Result<LetterAnswer, NoMemory>
     requires { letter.now.user < length group.old.sessions.items }
     ensures answer { IfOk result (AnswersLetter group.old group.new letter.now) }
     ensures err { OnErr result (StaysAfterError group.old group.new letter.now.matter) }
@@ -245,7 +296,10 @@ pub fn answer_letter<R: Wait>(
         Matter::Asked(LiveRequest::Domain(WholeRequest::Why { node })) => {
             group.answer_why(rt, alloc, user, letter.number, *node)
         }
-        Matter::Wrong(why) => error_answer(alloc, group.name(user), letter.number, *why),
+        Matter::Wrong(why) => {
+            let lines = error_answer(alloc, group.name(user), letter.number, *why)?;
+            Ok(LetterAnswer::of_line(lines))
+        }
         Matter::OperatorRestart => group.answer_operator(rt, alloc, user, letter.number),
     }
 }

@@ -21,7 +21,7 @@ fn commands_of_sessions(sessions: &[Session<'_>]) -> u64
 {
     let mut commands: u64 = 0;
     for session in sessions {
-        commands = commands.saturating_add(session.told().len() as u64);
+        commands = commands.saturating_add(session.commands().len() as u64);
     }
     commands
 }
@@ -31,7 +31,7 @@ fn commands_of_pass(domain: u8, pass: &UserPass) -> u64
     ensures { result ≡ commands_of_pass domain pass.now }
 {
     if pass.domain() == domain {
-        pass.told().len() as u64
+        pass.commands().len() as u64
     } else {
         0
     }

@@ -71,7 +71,7 @@ impl Shadow {
     {
         // A moment that goes on is one after more calls.
         moments_go_on();
-        let before = self.follower.recorded();
+        let before = self.follower.recorded_events();
         let most = end.min(before.saturating_add(self.left));
         if before >= most {
             return Ok(false);
@@ -85,7 +85,7 @@ impl Shadow {
         }
         self.mark = mark;
         self.follower.follow_entries(self.room.as_slice(), most)?;
-        let done = self.follower.recorded().saturating_sub(before);
+        let done = self.follower.recorded_events().saturating_sub(before);
         let entries = (self.room.len() as u64).saturating_mul(ENTRY_COUNTS);
         self.left = self.left.saturating_sub(done).saturating_sub(entries);
         Ok(true)
@@ -127,7 +127,10 @@ impl Shadow {
     {
         self.follow_journal(rt, group.service, group.domain, status.recorded)?;
         let causes = explain_moment(alloc, &self.follower, node)?;
-        let (room, done) = (group.service.room().bytes(), self.follower.recorded());
+        let (room, done) = (
+            group.service.room().bytes(),
+            self.follower.recorded_events(),
+        );
         Ok(tell(alloc, status, room, done, causes.as_str())?)
     }
 }

@@ -204,7 +204,7 @@ impl<'a> Crew<'a> {
     }
 
     // Into whose mailbox a matter of the line of this number goes, and as what letter, by the place of the user's name.
-    fn addressed(&self, user: usize, number: u64, matter: Matter) -> Option<(&Mailbox, Letter)>
+    fn letter_to(&self, user: usize, number: u64, matter: Matter) -> Option<(&Mailbox, Letter)>
         ensures { option_map (λ sent. (sent.0.now, sent.1)) result ≡ mailed self.now user number matter }
     {
         let whose = self.numbers.get(user)?;
@@ -220,7 +220,7 @@ impl<'a> Crew<'a> {
     /// Puts a matter of the line of this number into the mailbox of a user's domain. `user` is the place of the user's name among
     /// all.
     pub fn send<R: Wait>(&self, rt: &R, user: usize, number: u64, matter: Matter) -> Sent {
-        match self.addressed(user, number, matter) {
+        match self.letter_to(user, number, matter) {
             Some((mailbox, letter)) => mailbox.put(rt, letter),
             None => Sent::Waits,
         }

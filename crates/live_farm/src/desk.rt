@@ -1,15 +1,15 @@
 //! Who reads the lines: users' lines go to the threads of their domains, and the operator's are answered here.
 
 use crate::crew::Crew;
-use crate::failure::Trouble;
+use crate::failure::LiveStop;
 use crate::fate::{LineFate, fate_of};
 use crate::letter::Matter;
 use crate::mailbox::Sent;
-use crate::notices::Notices;
 use crate::operator::Operator;
 use crate::outlet::SharedOutlet;
-use crate::texts::{Why, error_answer, unknown_user_answer};
+use crate::texts::{NotDone, error_answer, unknown_user_answer};
 use live_lines::{MOST_LINE_BYTES, OperatorRequest};
+use record_files::Notices;
 use script_text::next_line;
 use std::alloc::Global;
 use std::io::BufRead;
@@ -39,8 +39,8 @@ impl Desk<'_, '_> {
         outlet: &O,
         name: &str,
         number: u64,
-        why: Why,
-    ) -> Result<(), Trouble> {
+        why: NotDone,
+    ) -> Result<(), LiveStop> {
         let answer = error_answer(self.alloc, name, number, why)?;
         outlet.put_answer(rt, &answer);
         Ok(())
@@ -55,7 +55,7 @@ impl Desk<'_, '_> {
         user: usize,
         number: u64,
         matter: Matter,
-    ) -> Result<(), Trouble> {
+    ) -> Result<(), LiveStop> {
         let name = match (&matter, self.crew.names.get(user)) {
             (Matter::OperatorRestart, _) => "!",
             (_, Some(name)) => name,
@@ -63,8 +63,8 @@ impl Desk<'_, '_> {
         };
         match self.crew.send(rt, user, number, matter) {
             Sent::Waits => Ok(()),
-            Sent::Full => self.tell(rt, outlet, name, number, Why::Busy),
-            Sent::NoMemory => self.tell(rt, outlet, name, number, Why::Memory),
+            Sent::Full => self.tell(rt, outlet, name, number, NotDone::Busy),
+            Sent::NoMemory => self.tell(rt, outlet, name, number, NotDone::Memory),
         }
     }
 
@@ -76,7 +76,7 @@ impl Desk<'_, '_> {
         operator: &mut Operator<'_>,
         number: u64,
         request: OperatorRequest,
-    ) -> Result<Goes, Trouble> {
+    ) -> Result<Goes, LiveStop> {
         match request {
             OperatorRequest::Words => {
                 outlet.put_answer(rt, &operator.words(self.alloc)?);
@@ -97,7 +97,7 @@ impl Desk<'_, '_> {
         rt: &R,
         outlet: &O,
         operator: &Operator<'_>,
-    ) -> Result<(), Trouble> {
+    ) -> Result<(), LiveStop> {
         for place in 0..self.crew.names.len() {
             if let Some(answer) = operator.user(rt, self.alloc, self.crew, place)? {
                 outlet.put_answer(rt, &answer);
@@ -115,7 +115,7 @@ impl Desk<'_, '_> {
         errors: &N,
         number: u64,
         fate: LineFate,
-    ) -> Result<Goes, Trouble> {
+    ) -> Result<Goes, LiveStop> {
         match fate {
             LineFate::End => return Ok(Goes::Stopped),
             LineFate::PassedOver => {}
@@ -135,12 +135,12 @@ impl Desk<'_, '_> {
     }
 
     /// Why no more lines are read, if that is so: a write failed, or the thread of a domain ran out of memory.
-    pub fn look<R: Wait, O: SharedOutlet>(&self, rt: &R, outlet: &O) -> Result<(), Trouble> {
+    pub fn look<R: Wait, O: SharedOutlet>(&self, rt: &R, outlet: &O) -> Result<(), LiveStop> {
         if outlet.has_failed(rt) {
-            return Err(Trouble::Io);
+            return Err(LiveStop::Io);
         }
         if self.crew.is_out_of_memory() {
-            return Err(Trouble::Memory);
+            return Err(LiveStop::Memory);
         }
         Ok(())
     }
@@ -154,10 +154,10 @@ impl Desk<'_, '_> {
         input: &mut I,
         errors: &N,
         number: u64,
-    ) -> Result<Goes, Trouble> {
+    ) -> Result<Goes, LiveStop> {
         let read = match next_line(self.alloc, input, MOST_LINE_BYTES) {
             Ok(read) => read,
-            Err(error) => return Err(Trouble::of_input(&error)),
+            Err(error) => return Err(LiveStop::of_input(&error)),
         };
         self.look(rt, outlet)?;
         let fate = fate_of(self.alloc, self.crew.names.as_slice(), &read);
@@ -172,7 +172,7 @@ impl Desk<'_, '_> {
         operator: &mut Operator<'_>,
         input: &mut I,
         errors: &N,
-    ) -> Result<(), Trouble> {
+    ) -> Result<(), LiveStop> {
         let mut number: u64 = 0;
         for _ in rt.forever() {
             number = number.saturating_add(1);
@@ -190,7 +190,7 @@ fn tell_unknown_user<R: Wait, N: Notices>(
     alloc: Global,
     errors: &N,
     number: u64,
-) -> Result<(), Trouble> {
+) -> Result<(), LiveStop> {
     let answer = unknown_user_answer(alloc, number)?;
     errors.tell(rt, answer.as_str());
     Ok(())

@@ -1,9 +1,10 @@
 //! Why a run ends early.
 ghost use Rattle.std.specs.Prelude.{◌≡◌, ◌⊎◌};
 ghost use Rattle.live_farm.specs.declared.failure.LiveFailure.TheVariants.{Memory};
-ghost use Rattle.live_farm.specs.LiveStatuses.{live_status};
+ghost use Rattle.live_farm.specs.LiveStatuses.{live_status, file_status};
 
 use plan_checker::PlanFault;
+use record_files::FileFailure;
 use script_text::write_whole;
 use std::alloc::{AllocError, AllocFailed, Global};
 use std::io::{self, Write};
@@ -11,7 +12,7 @@ use thiserror::Error;
 
 /// Why no more lines are answered.
 #[derive(Clone, Copy)]
-pub enum Trouble {
+pub enum LiveStop {
     /// There is no memory.
     Memory,
     /// A read or a write failed.
@@ -20,28 +21,28 @@ pub enum Trouble {
     Threads,
 }
 
-impl Trouble {
+impl LiveStop {
     /// A read failed.
-    pub fn of_input(error: &io::Error) -> Trouble {
+    pub fn of_input(error: &io::Error) -> LiveStop {
         match error.kind() {
-            io::ErrorKind::OutOfMemory => Trouble::Memory,
-            _ => Trouble::Io,
+            io::ErrorKind::OutOfMemory => LiveStop::Memory,
+            _ => LiveStop::Io,
         }
     }
 }
 
-impl From<AllocError> for Trouble {
-    fn from(_error: AllocError) -> Trouble {
-        Trouble::Memory
+impl From<AllocError> for LiveStop {
+    fn from(_error: AllocError) -> LiveStop {
+        LiveStop::Memory
     }
 }
 
-impl From<Trouble> for LiveFailure {
-    fn from(trouble: Trouble) -> LiveFailure {
+impl From<LiveStop> for LiveFailure {
+    fn from(trouble: LiveStop) -> LiveFailure {
         match trouble {
-            Trouble::Memory => LiveFailure::Memory,
-            Trouble::Io => LiveFailure::Io,
-            Trouble::Threads => LiveFailure::Threads,
+            LiveStop::Memory => LiveFailure::Memory,
+            LiveStop::Io => LiveFailure::Io,
+            LiveStop::Threads => LiveFailure::Threads,
         }
     }
 }
@@ -59,10 +60,8 @@ pub enum LiveFailure {
     Memory,
     #[error("io\n")]
     Io,
-    #[error("{path}: {error}\n")]
-    File { path: String, error: io::Error },
-    #[error("{path}: {why}\n")]
-    Record { path: String, why: String },
+    #[error("{0}")]
+    File(FileFailure),
     #[error("the histories aren't those of the plan\n")]
     Histories,
     #[error("threads\n")]
@@ -78,11 +77,20 @@ impl Drop for LiveFailure {
             | LiveFailure::Plan { number: _ }
             | LiveFailure::Memory
             | LiveFailure::Io
-            | LiveFailure::File { path: _, error: _ }
-            | LiveFailure::Record { path: _, why: _ }
+            | LiveFailure::File(_)
             | LiveFailure::Histories
             | LiveFailure::Threads => {}
         }
+    }
+}
+
+// The status of a run that ends since it can't use a file.
+fn status_of_file(failure: &FileFailure) -> u8
+    ensures { result ≡ file_status failure.now }
+{
+    match failure {
+        FileFailure::Memory => 5,
+        FileFailure::System { .. } | FileFailure::Record { .. } | FileFailure::Histories => 6,
     }
 }
 
@@ -92,28 +100,6 @@ impl LiveFailure {
         match error.kind() {
             io::ErrorKind::OutOfMemory => LiveFailure::Memory,
             _ => LiveFailure::Arguments,
-        }
-    }
-
-    /// A call of the system on a file failed.
-    pub fn of_file(alloc: Global, path: &str, error: io::Error) -> LiveFailure {
-        if error.kind() == io::ErrorKind::OutOfMemory {
-            return LiveFailure::Memory;
-        }
-        match String::from_str(alloc, path) {
-            Ok(path) => LiveFailure::File { path, error },
-            Err(_) => LiveFailure::Memory,
-        }
-    }
-
-    /// A record, or the folder of records, can't be used.
-    pub fn of_record(alloc: Global, path: &str, why: &str) -> LiveFailure {
-        let Ok(path) = String::from_str(alloc, path) else {
-            return LiveFailure::Memory;
-        };
-        match String::from_str(alloc, why) {
-            Ok(why) => LiveFailure::Record { path, why },
-            Err(_) => LiveFailure::Memory,
         }
     }
 
@@ -135,10 +121,8 @@ impl LiveFailure {
             LiveFailure::Words(_) | LiveFailure::Arguments => 2,
             LiveFailure::Plan { .. } => 3,
             LiveFailure::Memory => 5,
-            LiveFailure::Io
-            | LiveFailure::File { .. }
-            | LiveFailure::Record { .. }
-            | LiveFailure::Histories => 6,
+            LiveFailure::File(failure) => status_of_file(failure),
+            LiveFailure::Io | LiveFailure::Histories => 6,
             LiveFailure::Threads => 7,
         }
     }
@@ -158,6 +142,12 @@ impl LiveFailure {
                 5
             }
         }
+    }
+}
+
+impl From<FileFailure> for LiveFailure {
+    fn from(failure: FileFailure) -> LiveFailure {
+        LiveFailure::File(failure)
     }
 }
 

@@ -3,7 +3,7 @@ ghost use Rattle.std.specs.Prelude.{◌≡◌, map};
 ghost use Rattle.live_farm.specs.Fates.{begins_comment, IsWhose, IsFate, IsFateOfBeginning, IsFateOfFault, IsFateOfLine};
 
 use crate::letter::Matter;
-use crate::texts::Why;
+use crate::texts::NotDone;
 use live_lines::{
     LiveFault, LiveLine, LiveRequest, OperatorRequest, is_operators, parse_live_line,
 };
@@ -21,11 +21,11 @@ pub enum LineFate {
     /// It asks something of a user's domain. `user` is the place of the user's name among all.
     Asks { user: usize, request: LiveRequest },
     /// It isn't done, and a user is answered why. `user` is the place of the user's name among all.
-    Refused { user: usize, why: Why },
+    Refused { user: usize, why: NotDone },
     /// The operator asks something.
     Operator(OperatorRequest),
     /// It isn't done, and the operator is answered why.
-    OperatorRefused(Why),
+    OperatorRefused(NotDone),
     /// It isn't done, and whose it is isn't known.
     Nobodys,
 }
@@ -52,7 +52,7 @@ fn called_by(names: &[&str], beginning: &[u8]) -> Option<usize>
 }
 
 // What becomes of a line if only its beginning is known.
-fn fate_of_beginning(names: &[&str], beginning: &[u8], why: Why) -> LineFate
+fn fate_of_beginning(names: &[&str], beginning: &[u8], why: NotDone) -> LineFate
     ensures { IsFateOfBeginning (map (λ n. n.now) names.now) beginning.now why result }
 {
     if begins_comment(beginning) {
@@ -74,13 +74,13 @@ fn fate_of_fault(fault: LiveFault) -> LineFate
     match fault {
         LiveFault::User { user, fault } => LineFate::Refused {
             user,
-            why: Why::Fault(fault),
+            why: NotDone::Fault(fault),
         },
-        LiveFault::Operator(fault) => LineFate::OperatorRefused(Why::Fault(fault)),
+        LiveFault::Operator(fault) => LineFate::OperatorRefused(NotDone::Fault(fault)),
         LiveFault::UnknownUser => LineFate::Nobodys,
         LiveFault::NoMemory { user } => LineFate::Refused {
             user,
-            why: Why::Memory,
+            why: NotDone::Memory,
         },
     }
 }
@@ -110,7 +110,7 @@ pub fn fate_of(alloc: Global, names: &[&str], read: &InputLine) -> LineFate
             let (line, _) = split_line(bytes.as_slice());
             fate_of_line(alloc, names, line)
         }
-        InputLine::Long(bytes) => fate_of_beginning(names, bytes.as_slice(), Why::Long),
-        InputLine::NoMemory(bytes) => fate_of_beginning(names, bytes.as_slice(), Why::Memory),
+        InputLine::Long(bytes) => fate_of_beginning(names, bytes.as_slice(), NotDone::Long),
+        InputLine::NoMemory(bytes) => fate_of_beginning(names, bytes.as_slice(), NotDone::Memory),
     }
 }

@@ -1,6 +1,6 @@
 //! What comes to a domain's thread.
 
-use crate::texts::Why;
+use crate::texts::NotDone;
 use live_lines::LiveRequest;
 
 /// What is to be answered.
@@ -9,7 +9,7 @@ pub enum Matter {
     /// A line that asks something.
     Asked(LiveRequest),
     /// A line that is wrong, and why.
-    Wrong(Why),
+    Wrong(NotDone),
     /// The operator asks that the domain begins again.
     OperatorRestart,
 }

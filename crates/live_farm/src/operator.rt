@@ -122,7 +122,7 @@ impl<'a> Operator<'a> {
         };
         match self.service.status(rt, domain) {
             Ok(status) => {
-                let (answered, room) = (station.answered(user), self.service.room().bytes());
+                let (answered, room) = (station.answered_lines(user), self.service.room().bytes());
                 Ok(Some(line_of(alloc, name, answered, status, room, station)?))
             }
             Err(_) => Ok(None),

@@ -10,8 +10,7 @@ ghost use Rattle.live_farm.specs.Closings.{AreUsersListed, HasListed, HasListedA
 
 use crate::asked::AskedCommands;
 use crate::crew::{Crew, RestGate};
-use crate::failure::{LiveFailure, Trouble};
-use crate::notices::Notices;
+use crate::failure::{LiveFailure, LiveStop};
 use crate::operator::Operator;
 use crate::outlet::SharedOutlet;
 use crate::outputs::LiveOutputs;
@@ -23,6 +22,7 @@ use farm_service::{
 };
 use line_answers::Quantum;
 use live_lines::LiveSettings;
+use record_files::Notices;
 use std::alloc::Global;
 use std::fs::File;
 use std::io::BufRead;
@@ -36,7 +36,7 @@ struct LiveReader<'a, 'b, I: BufRead> {
     alloc: Global,
     operator: Operator<'a>,
     input: &'b mut I,
-    ended: Result<(), Trouble>,
+    ended: Result<(), LiveStop>,
 }
 
 // Reads lines to their end, with a thread for each domain and the workers beside them.

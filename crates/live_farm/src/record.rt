@@ -5,10 +5,9 @@ ghost use Rattle.live_farm.specs.Kept.{HasKept};
 
 use crate::asked::AskedCommands;
 use crate::failure::LiveFailure;
-use crate::notices::Notices;
-use crate::resuming::names_of;
 use domain_core::NoMemory;
 use farm_service::Service;
+use record_files::{FileFailure, Notices, names_of};
 use record_keeping::{DomainRecord, NotKept, RecordStore};
 use std::alloc::Global;
 use std::io;
@@ -28,7 +27,9 @@ pub enum RecordState {
 // That a record isn't whole, with its place.
 fn failure_of<S: RecordStore>(record: &DomainRecord<S>, alloc: Global) -> LiveFailure {
     match record.path(alloc) {
-        Ok(Some(path)) => LiveFailure::of_record(alloc, path.as_str(), "it isn't whole"),
+        Ok(Some(path)) => {
+            LiveFailure::from(FileFailure::of_record(alloc, path.as_str(), "it isn't whole"))
+        }
         Ok(None) | Err(NoMemory) => LiveFailure::Memory,
     }
 }

@@ -3,21 +3,20 @@ ghost use Rattle.std.specs.Prelude.{◌≡◌, ◌<◌, ◌⊎◌, false, length
 ghost use Rattle.live_farm.specs.Asking.{commands_asked};
 ghost use Rattle.live_farm.specs.Groups.{AllStay, AnswersLetter, TellsUnrecorded, TellsFull, may_be_answered};
 
-use crate::answering::answer_letter;
+use crate::answering::{LetterAnswer, answer_letter};
 use crate::asked::AskedCommands;
 use crate::group::DomainUsers;
 use crate::letter::{Letter, Matter};
 use crate::mailbox::{Mail, Mailbox};
-use crate::notices::Notices;
 use crate::outlet::SharedOutlet;
 use crate::record::{
     RecordOutputs, RecordSizes, RecordState, SharedRecord, keep_and_tell, trim_and_tell,
 };
-use crate::resuming::names_of;
 use crate::room::{commands_of, has_record_room, has_room, is_used_up};
-use crate::texts::{LiveAnswer, Why, error_answer, error_answer_in, note_answer};
+use crate::texts::{LiveAnswer, NotDone, error_answer, error_answer_in, note_answer};
 use domain_core::NoMemory;
 use live_lines::LiveRequest;
+use record_files::{Notices, names_of};
 use std::alloc::Global;
 use std::mem;
 use std::sync::atomic::{AtomicBool, AtomicU64, Ordering};
@@ -109,7 +108,7 @@ impl<'a> Station<'a> {
     }
 
     /// How many lines of a user were answered.
-    pub fn answered(&self, user: u8) -> u64 {
+    pub fn answered_lines(&self, user: u8) -> u64 {
         match self.answered.get(usize::from(user)) {
             Some(count) => count.load(Ordering::SeqCst),
             None => 0,
@@ -186,9 +185,9 @@ fn record_answer(
 {
     let name = group.name(usize::from(letter.user));
     match letter.matter {
-        Matter::OperatorRestart => error_answer(alloc, "!", letter.number, Why::Record),
+        Matter::OperatorRestart => error_answer(alloc, "!", letter.number, NotDone::Record),
         Matter::Asked(_) | Matter::Wrong(_) => {
-            error_answer(alloc, name, letter.number, Why::Record)
+            error_answer(alloc, name, letter.number, NotDone::Record)
         }
     }
 }
@@ -196,7 +195,7 @@ fn record_answer(
 // What a letter is answered, and what came of it.
 #[derive(Drop)]
 struct AnsweredLetter {
-    answer: LiveAnswer,
+    answer: LetterAnswer,
     // Whether the domain was asked.
     is_asked: bool,
     state: RecordState,
@@ -223,8 +222,13 @@ fn full_answer(
 {
     let name = group.name(usize::from(letter.user));
     match letter.matter {
-        Matter::OperatorRestart => error_answer(alloc, "!", letter.number, Why::Full),
-        Matter::Asked(_) | Matter::Wrong(_) => error_answer(alloc, name, letter.number, Why::Full),
+        Matter::OperatorRestart => error_answer(alloc, "!", letter.number, NotDone::Full),
+        Matter::Asked(_) | Matter::Wrong(_) => error_answer(
+            alloc,
+            name,
+            letter.number,
+            NotDone::Full,
+        ),
     }
 }
 
@@ -260,21 +264,21 @@ fn answer_and_keep<R: Wait, K: SharedRecord, N: Notices>(
     requires { letter.now.user < length group.old.sessions.items }
     ensures answer { IfOk result (λ a. (AnswersLetter group.old group.new letter.now a.answer
         × K.has_kept outputs.now.«record».now group.old.service.now.plan group.old.domain (commands_asked group.new))
-        ⊎ (TellsUnrecorded group.new letter.now (string_bytes a.answer.text)
-        ⊎ (has_room ≡ false × AllStay group.old group.new × TellsFull group.new letter.now (string_bytes a.answer.text)))) }
+        ⊎ (TellsUnrecorded group.new letter.now (string_bytes a.answer.lines.text)
+        ⊎ (has_room ≡ false × AllStay group.old group.new × TellsFull group.new letter.now (string_bytes a.answer.lines.text)))) }
     ensures not_asked { may_be_answered state letter.now.matter ≡ false
-        → IfOk result (λ a. AllStay group.old group.new × TellsUnrecorded group.new letter.now (string_bytes a.answer.text)) }
+        → IfOk result (λ a. AllStay group.old group.new × TellsUnrecorded group.new letter.now (string_bytes a.answer.lines.text)) }
 {
     if !may_answer(state, &letter.matter) {
         return Ok(AnsweredLetter {
-            answer: record_answer(alloc, group, letter)?,
+            answer: LetterAnswer::of_line(record_answer(alloc, group, letter)?),
             is_asked: false,
             state,
         });
     }
     if !has_room {
         return Ok(AnsweredLetter {
-            answer: full_answer(alloc, group, letter)?,
+            answer: LetterAnswer::of_line(full_answer(alloc, group, letter)?),
             is_asked: false,
             state,
         });
@@ -290,7 +294,9 @@ fn answer_and_keep<R: Wait, K: SharedRecord, N: Notices>(
     )?;
     let answer = match state {
         RecordState::Kept => answer,
-        RecordState::Unrecorded | RecordState::Out => record_answer(alloc, group, letter)?,
+        RecordState::Unrecorded | RecordState::Out => {
+            LetterAnswer::of_line(record_answer(alloc, group, letter)?)
+        }
     };
     Ok(AnsweredLetter {
         answer,
@@ -335,8 +341,8 @@ fn serve_letter<R: Wait, K: SharedRecord, O: SharedOutlet, N: Notices>(
     station.count(letter);
     // If there is no memory for a notice of an older record, the rest of this is left to the next letter.
     let _ = note_records(rt, alloc, station, group, outputs);
-    outlet.put_answer(rt, &answered.answer);
-    if matches!(letter.matter, Matter::Wrong(Why::Memory)) {
+    outlet.put_answer(rt, &answered.answer.lines);
+    if matches!(letter.matter, Matter::Wrong(NotDone::Memory)) {
         group.service.halt(group.domain);
     }
     let user = usize::from(letter.user);
@@ -416,7 +422,7 @@ fn answer_want<R: Wait, O: SharedOutlet>(
         Matter::Asked(_) | Matter::Wrong(_) => group.name(usize::from(letter.user)),
     };
     let text = mem::replace(spare, String::new(alloc));
-    if let Ok(answer) = error_answer_in(text, name, letter.number, Why::Memory) {
+    if let Ok(answer) = error_answer_in(text, name, letter.number, NotDone::Memory) {
         outlet.put_answer(rt, &answer);
         *spare = answer.into_text();
     }

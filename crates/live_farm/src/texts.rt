@@ -1,6 +1,6 @@
 //! The answers that a script hasn't.
 ghost use Rattle.std.specs.List.{flat_map};
-ghost use Rattle.std.specs.Prelude.{◌≡◌, ◌++◌, IfOk, OnOk, true, false, codes, string_bytes, if◌then◌else◌};
+ghost use Rattle.std.specs.Prelude.{◌≡◌, ◌++◌, IfOk, OnOk, true, codes, string_bytes, if◌then◌else◌};
 ghost use Rattle.std.specs.Str.Lines.{lines};
 ghost use Rattle.live_farm.specs.WholeLines.{are_lines};
 ghost use Rattle.live_farm.specs.LiveTexts.{reason_word, error_text, unknown_user_text, rest_text, rest_word, rest_state_of, note_text, restart_text, operator_restart_text};
@@ -13,7 +13,7 @@ use std::alloc::Global;
 
 /// Why a line isn't done.
 #[derive(Clone, Copy)]
-pub enum Why {
+pub enum NotDone {
     /// It is wrong as a line of a script is.
     Fault(LineFault),
     /// It is too long.
@@ -30,28 +30,27 @@ pub enum Why {
     Memory,
 }
 
-impl Why {
+impl NotDone {
     /// As it is shown.
     pub fn word(self) -> &'static str
         ensures { result.now ≡ reason_word self }
     {
         match self {
-            Why::Fault(fault) => fault.word(),
-            Why::Long => "long",
-            Why::Busy => "busy",
-            Why::Record => "record",
-            Why::Journal => "journal",
-            Why::Full => "full",
-            Why::Memory => "memory",
+            NotDone::Fault(fault) => fault.word(),
+            NotDone::Long => "long",
+            NotDone::Busy => "busy",
+            NotDone::Record => "record",
+            NotDone::Journal => "journal",
+            NotDone::Full => "full",
+            NotDone::Memory => "memory",
         }
     }
 }
 
-/// The lines of an answer, which are whole and are written together, and whether the domain began again for it.
+/// The lines of an answer, which are whole and are written together.
 #[derive(Drop)]
 pub struct LiveAnswer {
     pub(crate) text: String,
-    pub(crate) begins_anew: bool,
     ghost whole: { are_lines (string_bytes text) ≡ true },
 }
 
@@ -60,18 +59,13 @@ impl LiveAnswer {
     pub fn of(text: String) -> LiveAnswer
         requires { are_lines (string_bytes text) ≡ true }
         ensures text { result.text ≡ text }
-        ensures anew { result.begins_anew ≡ false }
     {
-        LiveAnswer {
-            text,
-            begins_anew: false,
-        }
+        LiveAnswer { text }
     }
 
     /// A text as a line, with a line feed after it.
     pub fn line(mut text: String) -> Result<LiveAnswer, NoMemory>
-        ensures text { IfOk result (λ a. string_bytes a.text ≡ string_bytes text ++ codes "\n") }
-        ensures anew { IfOk result (λ a. a.begins_anew ≡ false) }
+        ensures { IfOk result (λ a. string_bytes a.text ≡ string_bytes text ++ codes "\n") }
     {
         text.push_str("\n")?;
         Ok(LiveAnswer::of(text))
@@ -81,10 +75,7 @@ impl LiveAnswer {
     pub fn into_text(self) -> String
         ensures { result ≡ self.text }
     {
-        let LiveAnswer {
-            text,
-            begins_anew: _,
-        } = self;
+        let LiveAnswer { text } = self;
         text
     }
 
@@ -102,10 +93,9 @@ pub fn error_answer(
     alloc: Global,
     name: &str,
     number: u64,
-    why: Why,
+    why: NotDone,
 ) -> Result<LiveAnswer, NoMemory>
-    ensures text { IfOk result (λ a. string_bytes a.text ≡ error_text name.now number why) }
-    ensures anew { IfOk result (λ a. a.begins_anew ≡ false) }
+    ensures { IfOk result (λ a. string_bytes a.text ≡ error_text name.now number why) }
 {
     error_answer_in(String::new(alloc), name, number, why)
 }
@@ -115,10 +105,9 @@ pub fn error_answer_in(
     mut text: String,
     name: &str,
     number: u64,
-    why: Why,
+    why: NotDone,
 ) -> Result<LiveAnswer, NoMemory>
-    ensures text { IfOk result (λ a. string_bytes a.text ≡ error_text name.now number why) }
-    ensures anew { IfOk result (λ a. a.begins_anew ≡ false) }
+    ensures { IfOk result (λ a. string_bytes a.text ≡ error_text name.now number why) }
 {
     let word = why.word();
     text.clear();
@@ -134,7 +123,7 @@ pub fn unknown_user_answer(alloc: Global, number: u64) -> Result<LiveAnswer, NoM
 }
 
 // One word or the other.
-fn chosen(is_first: bool, first: &'static str, second: &'static str) -> &'static str
+fn word_of_two(is_first: bool, first: &'static str, second: &'static str) -> &'static str
     ensures { result.now ≡ (if is_first then first.now else second.now) }
 {
     if is_first { first } else { second }
@@ -179,8 +168,7 @@ impl RestState {
 
 /// Whether a user's domain is at rest.
 pub fn rest_answer(alloc: Global, name: &str, state: RestState) -> Result<LiveAnswer, NoMemory>
-    ensures text { IfOk result (λ a. string_bytes a.text ≡ rest_text name.now state) }
-    ensures anew { IfOk result (λ a. a.begins_anew ≡ false) }
+    ensures { IfOk result (λ a. string_bytes a.text ≡ rest_text name.now state) }
 {
     let word = state.word();
     let answer = LiveAnswer::line(format!(in alloc; "{name} rest {word}")?)?;
@@ -189,8 +177,7 @@ pub fn rest_answer(alloc: Global, name: &str, state: RestState) -> Result<LiveAn
 
 /// That the domain of a user rests, since `used` of the `room` bytes of its room are used.
 pub fn note_answer(alloc: Global, name: &str, used: u64, room: u64) -> Result<LiveAnswer, NoMemory>
-    ensures text { IfOk result (λ a. string_bytes a.text ≡ note_text name.now used room) }
-    ensures anew { IfOk result (λ a. a.begins_anew ≡ false) }
+    ensures { IfOk result (λ a. string_bytes a.text ≡ note_text name.now used room) }
 {
     let answer = LiveAnswer::line(format!(in alloc; "{name} note rests {used} {room}")?)?;
     Ok(answer)
@@ -198,12 +185,10 @@ pub fn note_answer(alloc: Global, name: &str, used: u64, room: u64) -> Result<Li
 
 /// Whether a user's domain begins again, or only the operator may ask for that.
 pub fn restart_answer(alloc: Global, name: &str, is_done: bool) -> Result<LiveAnswer, NoMemory>
-    ensures text { IfOk result (λ a. string_bytes a.text ≡ restart_text name.now is_done) }
-    ensures anew { IfOk result (λ a. a.begins_anew ≡ is_done) }
+    ensures { IfOk result (λ a. string_bytes a.text ≡ restart_text name.now is_done) }
 {
-    let word = chosen(is_done, "ok", "operator");
-    let mut answer = LiveAnswer::line(format!(in alloc; "{name} restart {word}")?)?;
-    answer.begins_anew = is_done;
+    let word = word_of_two(is_done, "ok", "operator");
+    let answer = LiveAnswer::line(format!(in alloc; "{name} restart {word}")?)?;
     Ok(answer)
 }
 
@@ -219,8 +204,7 @@ fn push_why_lines(text: &mut String, name: &str, told: &str) -> Result<(), NoMem
 
 /// Why the nodes of a user's domain do no more than they do: a line for each line of `told`, and a last line after them.
 pub fn why_answer(alloc: Global, name: &str, told: &str) -> Result<LiveAnswer, NoMemory>
-    ensures text { IfOk result (λ a. string_bytes a.text ≡ why_text name.now told.now) }
-    ensures anew { IfOk result (λ a. a.begins_anew ≡ false) }
+    ensures { IfOk result (λ a. string_bytes a.text ≡ why_text name.now told.now) }
 {
     let mut text = String::new(alloc);
     push_why_lines(&mut text, name, told)?;
@@ -230,8 +214,7 @@ pub fn why_answer(alloc: Global, name: &str, told: &str) -> Result<LiveAnswer, N
 
 /// That a user's domain has no node of this number.
 pub fn no_node_answer(alloc: Global, name: &str, node: u8) -> Result<LiveAnswer, NoMemory>
-    ensures text { IfOk result (λ a. string_bytes a.text ≡ no_node_text name.now node) }
-    ensures anew { IfOk result (λ a. a.begins_anew ≡ false) }
+    ensures { IfOk result (λ a. string_bytes a.text ≡ no_node_text name.now node) }
 {
     let answer = LiveAnswer::line(format!(in alloc; "{name} why {node} nosuch")?)?;
     Ok(answer)
@@ -239,10 +222,8 @@ pub fn no_node_answer(alloc: Global, name: &str, node: u8) -> Result<LiveAnswer,
 
 /// That the domain of a user begins again, for the operator.
 pub fn operator_restart_answer(alloc: Global, name: &str) -> Result<LiveAnswer, NoMemory>
-    ensures text { IfOk result (λ a. string_bytes a.text ≡ operator_restart_text name.now) }
-    ensures anew { IfOk result (λ a. a.begins_anew ≡ true) }
+    ensures { IfOk result (λ a. string_bytes a.text ≡ operator_restart_text name.now) }
 {
-    let mut answer = LiveAnswer::line(format!(in alloc; "!restart {name} ok")?)?;
-    answer.begins_anew = true;
+    let answer = LiveAnswer::line(format!(in alloc; "!restart {name} ok")?)?;
     Ok(answer)
 }

@@ -2,13 +2,13 @@
 
 use crate::crew::Crew;
 use crate::desk::Desk;
-use crate::failure::Trouble;
-use crate::notices::Notices;
+use crate::failure::LiveStop;
 use crate::operator::Operator;
 use crate::outlet::SharedOutlet;
 use crate::outputs::LiveOutputs;
 use crate::record::SharedRecord;
 use crate::station::{Station, serve};
+use record_files::Notices;
 use std::alloc::Global;
 use std::io::BufRead;
 use std::sync::Wait;
@@ -37,7 +37,7 @@ fn run_stations<
     outputs: &LiveOutputs<'_, K, O, N>,
     operator: &mut Operator<'_>,
     input: &mut I,
-) -> Result<(), Trouble> {
+) -> Result<(), LiveStop> {
     let alloc = desk.alloc;
     let (records, outlet, errors) = (outputs.records, outputs.outlet, outputs.errors);
     thread::scope(thread::scope_env(), rt, |scope| {
@@ -60,7 +60,7 @@ fn run_stations<
         let ended = if started {
             desk.read_lines(rt, outlet, operator, input, errors)
         } else {
-            Err(Trouble::Threads)
+            Err(LiveStop::Threads)
         };
         for station in stations {
             station.mailbox.close(rt);
@@ -85,7 +85,7 @@ pub fn run_crew<
     outputs: &LiveOutputs<'_, K, O, N>,
     operator: &mut Operator<'_>,
     input: &mut I,
-) -> Result<(), Trouble> {
+) -> Result<(), LiveStop> {
     let desk = Desk { crew, alloc };
     run_stations(
         rt,

@@ -44,7 +44,7 @@ pub fn explain_followed(
         most_inside: usize::MAX,
     };
     let causes = explain(alloc, follower, all)?;
-    led_words(alloc, follower.recorded(), is_cut, causes.as_str())
+    led_words(alloc, follower.recorded_events(), is_cut, causes.as_str())
 }
 
 /// Says why each node, or one of them, does no more than it does, at the moment to which a domain was led. Of the processes

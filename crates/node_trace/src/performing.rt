@@ -27,7 +27,7 @@ const WORKSPACE: u32 = 0x8000_0200;
 /// A fresh node that runs: its memory is zero, its links have done nothing, A, B and C are 0, W is 80000200, Iptr 80000048
 /// where code begins, and the queue is empty.
 pub fn open_running(alloc: Global, size: usize) -> Result<Node, NoMemory> {
-    let registers = Cpu::started(CODE_START, WORKSPACE);
+    let registers = Cpu::new(CODE_START, WORKSPACE);
     let memory = Memory::new(alloc, memory_size(size))?;
     Ok(Node::running(memory, Links::new(), registers))
 }

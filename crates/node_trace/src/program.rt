@@ -1,5 +1,6 @@
 //! The program of a node: its labels, and its lines by their addresses.
-ghost use Rattle.std.specs.Prelude.{◌≡◌, IfOk};
+ghost use Rattle.std.specs.Prelude.{◌≡◌, IfOk, slice_get};
+ghost use Rattle.node_memory.specs.Words.{◌⊖◌};
 ghost use Rattle.node_trace.specs.Placed.{IsPlaced, code_bytes};
 ghost use Rattle.node_trace.specs.declared.program.ProgramCode.TheVariants.{Marked};
 
@@ -132,9 +133,11 @@ impl Program {
     }
 
     /// The byte of its code at an address, if it has one there.
-    pub fn byte_at(&self, address: u32) -> Option<u8> {
-        let offset = usize::try_from(address.wrapping_sub(self.origin)).ok()?;
-        self.code().get(offset).copied()
+    pub fn byte_at(&self, address: u32) -> Option<u8>
+        ensures { result ≡ slice_get (code_bytes self.now.made) (address ⊖ self.now.origin) }
+    {
+        let offset = address.wrapping_sub(self.origin);
+        self.code().get(offset as usize).copied()
     }
 
     /// Its lines that have code or a label, as pieces of code.
@@ -209,7 +212,7 @@ fn assembled_lines<'a>(
         lines.push(ProgramLine {
             address,
             length: behind.wrapping_sub(first),
-            number: number_of(index),
+            number: number_from_one(index),
             text,
             place: LinePlace::Label(label),
         })?;
@@ -218,7 +221,7 @@ fn assembled_lines<'a>(
 }
 
 // The number of the line of an index.
-fn number_of(index: usize) -> u32 {
+fn number_from_one(index: usize) -> u32 {
     u32::try_from(index).unwrap_or(u32::MAX).saturating_add(1)
 }
 

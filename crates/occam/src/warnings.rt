@@ -49,7 +49,7 @@ struct OccamWarning<'a> {
     form: WarningForm,
 }
 
-fn number_of(form: WarningForm) -> u8 {
+fn warning_number(form: WarningForm) -> u8 {
     match form {
         WarningForm::OneEnd(_) => 41,
         WarningForm::Unset(_) => 42,
@@ -257,11 +257,11 @@ fn one_end_of_array(ends: &[ChannelEnds]) -> Option<OneEnd> {
 impl<'a> OccamWarnings<'a> {
     // Notes a warning, once.
     fn add(&mut self, place: TextPlace, name: &'a str, form: WarningForm) {
-        let number = number_of(form);
+        let number = warning_number(form);
         for warning in &self.list {
             if warning.place.line == place.line
                 && warning.place.column == place.column
-                && number_of(warning.form) == number
+                && warning_number(warning.form) == number
                 && warning.name == name
             {
                 return;
@@ -348,7 +348,7 @@ impl<'a> OccamWarnings<'a> {
             (
                 warning.place.line,
                 warning.place.column,
-                number_of(warning.form),
+                warning_number(warning.form),
             )
         })?;
         let mut written = TextWriter::new(alloc);
@@ -368,7 +368,7 @@ fn put_warning(written: &mut TextWriter, warning: &OccamWarning<'_>) {
     written.push(", column ");
     written.push_decimal(u64::from(warning.place.column));
     written.push(": warning ");
-    written.push_decimal(u64::from(number_of(warning.form)));
+    written.push_decimal(u64::from(warning_number(warning.form)));
     written.push(": ");
     match warning.form {
         WarningForm::OneEnd(one) => put_one_end(written, warning.name, one),

@@ -93,7 +93,7 @@ impl<'a> Notes<'a> {
     fn alternative_row(&mut self, place: TextPlace, row: Vec<CoreAlternative>) -> CoreProcess {
         let made = choice_of(self.alloc, row);
         let process = self.made_process(made);
-        self.lined(place, process)
+        self.at_line(place, process)
     }
 }
 
@@ -177,7 +177,7 @@ impl<'a, 'b> Namer<'a, 'b> {
                 let row = self.alternatives(index, first, count, alternative, depth);
                 self.notes.alternative_row(place, row)
             }
-            IndexValues::Error => self.notes.lined(place, CoreProcess::Stop),
+            IndexValues::Error => self.notes.at_line(place, CoreProcess::Stop),
             _ => CoreProcess::Skip,
         }
     }

@@ -114,7 +114,7 @@ impl<'a, 'b> Namer<'a, 'b> {
         match self.assigned_array(name, array, value) {
             Some(from) if may_change => {
                 self.notes
-                    .lined(name.place, CoreProcess::Copy(array.array, from))
+                    .at_line(name.place, CoreProcess::Copy(array.array, from))
             }
             _ => CoreProcess::Skip,
         }

@@ -2,7 +2,7 @@
 
 use crate::channels::NamedChannel;
 use crate::expected::ExpectedMeaning;
-use crate::expressions::number_of;
+use crate::expressions::number_in;
 use crate::meaning::{ChannelMeaning, ChannelPart, MessageType, is_same_length, is_same_message};
 use crate::met::MetMeaning;
 use crate::namer::Namer;
@@ -41,7 +41,7 @@ impl<'a, 'b> Namer<'a, 'b> {
         subscript: Expression,
         row: &mut Vec<CoreProcess>,
     ) -> Option<ChannelPart> {
-        if let Some(number) = number_of(&subscript) {
+        if let Some(number) = number_in(&subscript) {
             return Some(ChannelPart::Element(number));
         }
         let number = self.kept_subscript(name, subscript, row)?;

@@ -23,7 +23,7 @@ impl<'a, 'b> Namer<'a, 'b> {
         }
         if let Some(place) = place {
             let words = self.variables.len().saturating_sub(first);
-            let process = self.notes.lined(place, channels_from(first, words));
+            let process = self.notes.at_line(place, channels_from(first, words));
             self.notes.add(row, process);
         }
     }

@@ -1,7 +1,7 @@
 //! Channels where they are used.
 
 use crate::expected::ExpectedMeaning;
-use crate::expressions::number_of;
+use crate::expressions::number_in;
 use crate::fault::MeaningHint;
 use crate::meaning::{Access, ChannelMeaning, ChannelPart, MessageType};
 use crate::met::MetMeaning;
@@ -86,7 +86,7 @@ impl ChannelUse {
     }
 
     // What is expected of a channel with which this is done.
-    fn expected(self) -> ExpectedMeaning {
+    fn expected_meaning(self) -> ExpectedMeaning {
         match self {
             ChannelUse::Send => ExpectedMeaning::OutputChannel,
             ChannelUse::Receive => ExpectedMeaning::InputChannel,
@@ -121,7 +121,7 @@ fn inside_channel(first: u32, form: ChannelForm, subscript: Option<Expression>) 
         return CoreChannel::Inside(first);
     };
     let length = form.length().unwrap_or(1);
-    match number_of(&subscript) {
+    match number_in(&subscript) {
         Some(number) if number < length => CoreChannel::Inside(first.saturating_add(number)),
         _ => {
             let kind = ElementKind::Word;
@@ -170,7 +170,12 @@ impl<'a> Notes<'a> {
             return true;
         }
         let met = MetMeaning::AtLink(name.text, name.place.line, number);
-        self.tell(place, channel_use.expected(), met, Some(channel_use.link()));
+        self.tell(
+            place,
+            channel_use.expected_meaning(),
+            met,
+            Some(channel_use.link()),
+        );
         false
     }
 }

@@ -165,7 +165,7 @@ pub fn error_in(expression: &Expression) -> (ExpectedMeaning, MetMeaning<'static
             .or(error_in_operand(right))
             .unwrap_or((ExpectedMeaning::ConstantValue, MetMeaning::Overflow)),
         Expression::Below(bound, operand) => {
-            error_in_operand(operand).unwrap_or((bounded(*bound), number_met(operand)))
+            error_in_operand(operand).unwrap_or((within_bound(*bound), number_met(operand)))
         }
         Expression::Number(_) | Expression::Variable(_) | Expression::Element(_, _) => {
             (ExpectedMeaning::ConstantValue, MetMeaning::Overflow)
@@ -183,7 +183,7 @@ fn error_in_operand(operand: &Expression) -> Option<(ExpectedMeaning, MetMeaning
 }
 
 // What is expected of a value below a bound.
-fn bounded(bound: u32) -> ExpectedMeaning {
+fn within_bound(bound: u32) -> ExpectedMeaning {
     if bound == 2 {
         ExpectedMeaning::BoolValue
     } else {

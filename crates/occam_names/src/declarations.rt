@@ -88,7 +88,7 @@ impl<'a, 'b> Namer<'a, 'b> {
         row: &mut Vec<CoreProcess>,
     ) {
         for process in processes {
-            let process = self.notes.lined(place, process);
+            let process = self.notes.at_line(place, process);
             self.notes.add(row, process);
         }
     }

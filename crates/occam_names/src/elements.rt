@@ -1,7 +1,7 @@
 //! Variables and elements of arrays where they are used.
 
 use crate::expected::ExpectedMeaning;
-use crate::expressions::{TypedExpression, number_of};
+use crate::expressions::{TypedExpression, number_in};
 use crate::fault::MeaningHint;
 use crate::marks::Region;
 use crate::meaning::{Access, ArrayMeaning, Cell};
@@ -52,7 +52,7 @@ fn element_of_array(
     array: ArrayMeaning,
     subscript: Expression,
 ) -> TypedElement<'_> {
-    let (element, region) = match (number_of(&subscript), array.length()) {
+    let (element, region) = match (number_in(&subscript), array.length()) {
         (Some(number), Some(length)) if number < length => (
             known_element(array.array, number),
             Region::of_element(array.array, number),
@@ -79,7 +79,7 @@ impl<'a> Notes<'a> {
         subscript: TypedExpression<'a>,
         length: Option<u32>,
     ) -> Option<Expression> {
-        let subscript = self.folded(subscript)?;
+        let subscript = self.fold(subscript)?;
         if self.is_subscript(&subscript, length) {
             Some(subscript.expression)
         } else {
@@ -96,7 +96,7 @@ impl<'a> Notes<'a> {
             self.tell(subscript.place, expected, met, hint);
             return false;
         }
-        let (Some(number), Some(length)) = (number_of(&subscript.expression), length) else {
+        let (Some(number), Some(length)) = (number_in(&subscript.expression), length) else {
             return true;
         };
         if number < length || self.around.is_in_place() {
@@ -146,7 +146,7 @@ impl<'a, 'b> Namer<'a, 'b> {
                 access,
                 region: Region::of_cell(cell),
             };
-            return self.allowed(name, element);
+            return self.if_allowed(name, element);
         }
         self.tell_no_variable(name, found, expected, hint);
         None
@@ -175,7 +175,7 @@ impl<'a, 'b> Namer<'a, 'b> {
     }
 
     // An element unless it may not be named so.
-    fn allowed(
+    fn if_allowed(
         &mut self,
         name: SourceName<'a>,
         element: TypedElement<'a>,
@@ -199,7 +199,7 @@ impl<'a, 'b> Namer<'a, 'b> {
             return None;
         };
         let subscript = self.notes.subscript(subscript?, array.length())?;
-        self.allowed(name, element_of_array(known, array, subscript))
+        self.if_allowed(name, element_of_array(known, array, subscript))
     }
 
     // Says that a name with a subscript is no array.

@@ -56,7 +56,7 @@ impl<'a> TypedExpression<'a> {
 }
 
 /// The number that an expression is.
-pub fn number_of(expression: &Expression) -> Option<u32> {
+pub fn number_in(expression: &Expression) -> Option<u32> {
     match expression {
         Expression::Number(number) => Some(*number),
         _ => None,
@@ -134,7 +134,7 @@ impl<'a> Notes<'a> {
 
     /// A whole expression: a number, if it is a constant, and else as it is written. If its value is an error, that is noted;
     /// but in a body that is put in place it is an error when the program runs.
-    pub fn folded(&mut self, typed: TypedExpression<'a>) -> Option<TypedExpression<'a>> {
+    pub fn fold(&mut self, typed: TypedExpression<'a>) -> Option<TypedExpression<'a>> {
         if typed.varies.is_some() {
             return Some(typed);
         }
@@ -168,7 +168,7 @@ impl<'a, 'b> Namer<'a, 'b> {
             SourceExpression::Converted(conversion, place, operand) => {
                 self.notes.count_part(*place);
                 let operand = self.expression(operand)?;
-                Some(self.notes.converted(*conversion, *place, operand))
+                Some(self.notes.conversion(*conversion, *place, operand))
             }
             SourceExpression::Dyadic(sign, place, left, right) => {
                 self.notes.count_part(*place);
@@ -238,7 +238,7 @@ impl<'a, 'b> Namer<'a, 'b> {
         expression: &SourceExpression<'a>,
     ) -> Option<TypedExpression<'a>> {
         let typed = self.expression(expression)?;
-        self.notes.folded(typed)
+        self.notes.fold(typed)
     }
 
     /// A whole expression of a type.

@@ -76,7 +76,7 @@ impl<'a, 'b> Namer<'a, 'b> {
         self.marks.truncate(marks);
         let made = in_sequence(self.notes.alloc, row);
         let process = self.notes.made_process(made);
-        self.notes.lined(name.place, process)
+        self.notes.at_line(name.place, process)
     }
 
     // The body of a procedure with these parameters.

@@ -72,7 +72,7 @@ impl<'a, 'b> Namer<'a, 'b> {
             }
         };
         match input {
-            Some(input) => self.notes.lined(place, input),
+            Some(input) => self.notes.at_line(place, input),
             None => CoreProcess::Skip,
         }
     }
@@ -151,7 +151,7 @@ impl<'a, 'b> Namer<'a, 'b> {
             WholeArray::Not => self.element_output(channel, value),
         };
         match output {
-            Some(output) => self.notes.lined(place, output),
+            Some(output) => self.notes.at_line(place, output),
             None => CoreProcess::Skip,
         }
     }

@@ -164,7 +164,7 @@ impl<'a> Notes<'a> {
     }
 
     /// A process that begins at a place, unless it is in no text of the user.
-    pub fn lined(&mut self, place: TextPlace, process: CoreProcess) -> CoreProcess {
+    pub fn at_line(&mut self, place: TextPlace, process: CoreProcess) -> CoreProcess {
         if self.around.prelude.is_some() {
             return process;
         }

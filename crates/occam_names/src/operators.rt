@@ -155,7 +155,7 @@ fn converted_expression(
 }
 
 // Two operands under an operator.
-fn joined<'a>(
+fn operands_under<'a>(
     alloc: Global,
     sign: DyadicSign,
     left: TypedExpression<'a>,
@@ -207,7 +207,7 @@ impl<'a> Notes<'a> {
     }
 
     /// A type before an operand.
-    pub fn converted(
+    pub fn conversion(
         &mut self,
         conversion: Conversion,
         place: TextPlace,
@@ -250,7 +250,7 @@ impl<'a> Notes<'a> {
         is_one_constant: bool,
     ) -> Option<TypedExpression<'a>> {
         if is_one_constant {
-            self.folded(operand)
+            self.fold(operand)
         } else {
             Some(operand)
         }
@@ -263,7 +263,7 @@ impl<'a> Notes<'a> {
         left: TypedExpression<'a>,
         right: TypedExpression<'a>,
     ) -> Option<TypedExpression<'a>> {
-        match joined(self.alloc, sign, left, right) {
+        match operands_under(self.alloc, sign, left, right) {
             Ok(typed) => Some(typed),
             Err(_) => {
                 self.lacks_memory = true;

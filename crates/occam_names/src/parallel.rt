@@ -18,7 +18,7 @@ impl<'a> Notes<'a> {
         if count < 2 {
             process
         } else {
-            self.lined(place, process)
+            self.at_line(place, process)
         }
     }
 }
@@ -70,7 +70,7 @@ impl<'a, 'b> Namer<'a, 'b> {
                 let row = self.components(index, first, count, process, depth);
                 self.notes.parallel_row(place, row)
             }
-            IndexValues::Error => self.notes.lined(place, CoreProcess::Stop),
+            IndexValues::Error => self.notes.at_line(place, CoreProcess::Stop),
             _ => CoreProcess::Skip,
         }
     }

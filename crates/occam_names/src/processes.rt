@@ -2,7 +2,7 @@
 
 use crate::elements::{CoreElement, TypedElement};
 use crate::expected::ExpectedMeaning;
-use crate::expressions::number_of;
+use crate::expressions::number_in;
 use crate::fault::MeaningHint;
 use crate::meaning::{Access, Cell};
 use crate::met::MetMeaning;
@@ -92,7 +92,7 @@ impl<'a, 'b> Namer<'a, 'b> {
         self.notes.count_part(place);
         match process {
             SourceProcess::Skip(_) => CoreProcess::Skip,
-            SourceProcess::Stop(place) => self.notes.lined(*place, CoreProcess::Stop),
+            SourceProcess::Stop(place) => self.notes.at_line(*place, CoreProcess::Stop),
             SourceProcess::Assignment(target, value) => self.assignment(target, value),
             SourceProcess::Input(channel, target) => self.input(channel, target),
             SourceProcess::Output(channel, value) => self.output(channel, value),
@@ -101,10 +101,10 @@ impl<'a, 'b> Namer<'a, 'b> {
             }
             SourceProcess::Sequence(_, processes) => self.sequence(processes.as_slice(), depth),
             SourceProcess::Repeated(place, replicator, process) => {
-                self.repeated(*place, replicator, process, depth)
+                self.repetition(*place, replicator, process, depth)
             }
             SourceProcess::Declared(declarations, process) => {
-                self.declared(declarations.as_slice(), process, is_outermost, depth)
+                self.with_declarations(declarations.as_slice(), process, is_outermost, depth)
             }
             _ => self.branching(process, depth),
         }
@@ -138,7 +138,7 @@ impl<'a, 'b> Namer<'a, 'b> {
 
     // Declarations, and the process after them.
     #[cycle(process)]
-    fn declared(
+    fn with_declarations(
         &mut self,
         declarations: &'b [Box<SourceDeclaration<'a>>],
         process: &'b SourceProcess<'a>,
@@ -178,7 +178,7 @@ impl<'a, 'b> Namer<'a, 'b> {
 
     // `SEQ` with a replicator
     #[cycle(process)]
-    fn repeated(
+    fn repetition(
         &mut self,
         place: TextPlace,
         replicator: &Replicator<'a>,
@@ -198,7 +198,7 @@ impl<'a, 'b> Namer<'a, 'b> {
         match Box::new(self.notes.alloc, process) {
             Ok(process) => {
                 let repeat = CoreProcess::Repeat(number, base.expression, count, process);
-                self.notes.lined(place, repeat)
+                self.notes.at_line(place, repeat)
             }
             Err(_) => self.notes.no_process(),
         }
@@ -218,7 +218,7 @@ impl<'a, 'b> Namer<'a, 'b> {
     // The count of a replicator.
     fn count_of(&mut self, count: &SourceExpression<'a>) -> Option<Expression> {
         let count = self.value_of_type(count, DataType::Int)?;
-        let number = number_of(&count.expression).unwrap_or(0).cast_signed();
+        let number = number_in(&count.expression).unwrap_or(0).cast_signed();
         if number >= 0 || self.notes.around.is_in_place() {
             return Some(count.expression);
         }
@@ -246,7 +246,7 @@ impl<'a, 'b> Namer<'a, 'b> {
         }
         let made = chain_of(self.notes.alloc, row);
         let chain = self.notes.made_process(made);
-        self.notes.lined(place, chain)
+        self.notes.at_line(place, chain)
     }
 
     // Adds a choice to a row, if that may have more.
@@ -280,7 +280,7 @@ impl<'a, 'b> Namer<'a, 'b> {
         match Box::new(self.notes.alloc, process) {
             Ok(process) => {
                 let process = CoreProcess::While(condition.expression, process);
-                self.notes.lined(place, process)
+                self.notes.at_line(place, process)
             }
             Err(_) => self.notes.no_process(),
         }
@@ -316,7 +316,7 @@ impl<'a, 'b> Namer<'a, 'b> {
         match self.value_of_type(value, target.data_type) {
             Some(value) => {
                 let process = assignment_of(target.element, value.expression);
-                self.notes.lined(place, process)
+                self.notes.at_line(place, process)
             }
             None => CoreProcess::Skip,
         }

@@ -3,7 +3,7 @@
 use crate::arrays::TypedArray;
 use crate::elements::{CoreElement, TypedElement};
 use crate::expected::ExpectedMeaning;
-use crate::expressions::number_of;
+use crate::expressions::number_in;
 use crate::fault::MeaningHint;
 use crate::marks::{MarkKind, Region};
 use crate::meaning::{Cell, TypeMeaning};
@@ -113,7 +113,7 @@ impl<'a, 'b> Namer<'a, 'b> {
         subscript: Expression,
         row: &mut Vec<CoreProcess>,
     ) -> Option<Cell> {
-        if let Some(number) = number_of(&subscript)
+        if let Some(number) = number_in(&subscript)
             && number < array.length
         {
             return Some(Cell::Element(array, number));

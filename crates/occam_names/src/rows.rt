@@ -21,11 +21,11 @@ pub struct CoreAlternative {
 /// One process after the other. The row is halved, and each half again, so that a long one isn't deep.
 pub fn in_sequence(alloc: Global, row: Vec<CoreProcess>) -> Result<CoreProcess, AllocError> {
     let count = row.len();
-    halved(alloc, &mut row.into_iter(), count)
+    chain_of_half(alloc, &mut row.into_iter(), count)
 }
 
 // The next `count` processes, one after the other.
-fn halved(
+fn chain_of_half(
     alloc: Global,
     row: &mut IntoIter<CoreProcess>,
     count: usize,
@@ -36,8 +36,8 @@ fn halved(
             _ => CoreProcess::Skip,
         });
     }
-    let first = halved(alloc, row, count / 2)?;
-    let second = halved(alloc, row, count - count / 2)?;
+    let first = chain_of_half(alloc, row, count / 2)?;
+    let second = chain_of_half(alloc, row, count - count / 2)?;
     Ok(CoreProcess::Sequence(Box::new(alloc, first)?, Box::new(alloc, second)?))
 }
 

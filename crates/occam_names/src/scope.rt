@@ -91,7 +91,7 @@ impl<'a> Scope<'a> {
 
     /// What a name means.
     pub fn find(&self, name: SourceName<'a>) -> FoundName<'a> {
-        if let Some(known) = self.known(name.text) {
+        if let Some(known) = self.known_name(name.text) {
             return FoundName::Known(known);
         }
         match value_named(&LINK_NAMES, name.text) {
@@ -102,7 +102,7 @@ impl<'a> Scope<'a> {
 
     /// The array that a name means.
     pub fn array_named(&self, name: SourceName<'a>) -> Option<(KnownName<'a>, ArrayMeaning)> {
-        let known = self.known(name.text)?;
+        let known = self.known_name(name.text)?;
         match known.meaning {
             Meaning::Array(array) => Some((known, array)),
             _ => None,
@@ -110,7 +110,7 @@ impl<'a> Scope<'a> {
     }
 
     // The declared name that a text means.
-    fn known(&self, text: &'a str) -> Option<KnownName<'a>> {
+    fn known_name(&self, text: &'a str) -> Option<KnownName<'a>> {
         let mut index = self.index_of(text)?;
         for _ in 0..self.names.len() {
             let known = self.names.get(index).copied()?;

@@ -3,7 +3,7 @@
 use crate::arrays::TypedArray;
 use crate::core_program::DeclaredForm;
 use crate::expected::ExpectedMeaning;
-use crate::expressions::{TypedExpression, number_of};
+use crate::expressions::{TypedExpression, number_in};
 use crate::fault::MeaningHint;
 use crate::meaning::{Access, ArrayMeaning, kind_of};
 use crate::namer::Namer;
@@ -107,7 +107,7 @@ impl<'a> Notes<'a> {
             self.tell(name.place, ExpectedMeaning::Constant, name.met, hint);
             return None;
         }
-        let value = number_of(&typed.expression)?;
+        let value = number_in(&typed.expression)?;
         Some((typed.data_type, value))
     }
 }

@@ -1,7 +1,7 @@
 //! What types mean.
 
 use crate::expected::ExpectedMeaning;
-use crate::expressions::{TypedExpression, number_of};
+use crate::expressions::{TypedExpression, number_in};
 use crate::meaning::{MessageType, TypeMeaning};
 use crate::met::MetMeaning;
 use crate::namer::Namer;
@@ -86,7 +86,7 @@ impl<'a> Notes<'a> {
                 }
                 ConstantValue::Open
             }
-            None => match number_of(&typed.expression) {
+            None => match number_in(&typed.expression) {
                 Some(number) => ConstantValue::Known(number),
                 None => ConstantValue::Error,
             },

@@ -2,7 +2,7 @@
 
 use crate::arrays::{TypedArray, WholeArray};
 use crate::expected::ExpectedMeaning;
-use crate::expressions::{TypedExpression, number_of};
+use crate::expressions::{TypedExpression, number_in};
 use crate::fault::MeaningHint;
 use crate::marks::{MarkKind, Region};
 use crate::meaning::{Access, ArrayMeaning, Cell, TypeMeaning};
@@ -138,7 +138,7 @@ impl<'a, 'b> Namer<'a, 'b> {
         let access = access_of(&typed);
         let data_type = typed.data_type;
         self.freeze_regions(name);
-        if let Some(number) = number_of(&typed.expression) {
+        if let Some(number) = number_in(&typed.expression) {
             return Some(Meaning::Constant(data_type, number));
         }
         let number = match variable_of(&typed.expression) {

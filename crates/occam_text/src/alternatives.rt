@@ -28,7 +28,7 @@ impl<'a, 'b> TreeReader<'a, 'b> {
     ) -> Result<Vec<Box<SourceAlternative<'a>>>, ReadStop> {
         self.find_no_guard_beside(blanks, construct)?;
         let mut alternatives = Vec::new(self.alloc);
-        for _ in 0..=self.left() {
+        for _ in 0..=self.count_left() {
             if !self.is_at_component(blanks, Some(construct))? {
                 break;
             }

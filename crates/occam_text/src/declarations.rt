@@ -312,7 +312,7 @@ impl<'a, 'b> TreeReader<'a, 'b> {
     ) -> Result<Vec<SourceName<'a>>, ReadStop> {
         let mut names = Vec::new(self.alloc);
         names.push(name)?;
-        for _ in 0..self.left() {
+        for _ in 0..self.count_left() {
             match (self.kind(), self.second_kind()) {
                 (TokenKind::Comma, TokenKind::Name) => self.take(),
                 (TokenKind::Comma, _) if !are_formals => self.take(),

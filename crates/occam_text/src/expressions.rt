@@ -7,7 +7,7 @@ use crate::hints::{
 };
 use crate::mistakes::{ExpectedPart, MetPart, ReadStop};
 use crate::omissions::OmittedPart;
-use crate::rows::{RowOperand, halved};
+use crate::rows::{RowOperand, tree_of_row};
 use crate::tree_reader::{MOST_NESTING, TreeReader};
 use crate::words::TokenKind;
 use occam_tree::{
@@ -89,7 +89,7 @@ impl<'a, 'b> TreeReader<'a, 'b> {
         let place = self.place();
         self.take();
         let operand = self.take_operand(depth)?;
-        boxed(self.alloc, SourceExpression::Monadic(sign, place, operand))
+        box_of(self.alloc, SourceExpression::Monadic(sign, place, operand))
     }
 
     // The type of this conversion, which is here, and what is converted.
@@ -102,7 +102,7 @@ impl<'a, 'b> TreeReader<'a, 'b> {
         let place = self.place();
         self.take();
         let operand = self.take_operand(depth)?;
-        boxed(
+        box_of(
             self.alloc,
             SourceExpression::Converted(conversion, place, operand),
         )
@@ -117,7 +117,7 @@ impl<'a, 'b> TreeReader<'a, 'b> {
             TokenKind::OpenBracket => {
                 Err(self.wrong_with(ExpectedPart::LineEndOrOperator, SIZE_OF_ARRAY))
             }
-            _ => boxed(self.alloc, SourceExpression::Size(place, name)),
+            _ => box_of(self.alloc, SourceExpression::Size(place, name)),
         }
     }
 
@@ -143,7 +143,7 @@ impl<'a, 'b> TreeReader<'a, 'b> {
         let place = self.place();
         self.take();
         let right = self.take_operand(depth)?;
-        boxed(
+        box_of(
             self.alloc,
             SourceExpression::Dyadic(sign, place, left, right),
         )
@@ -163,7 +163,7 @@ impl<'a, 'b> TreeReader<'a, 'b> {
             operand: left,
         };
         row.push(first)?;
-        for _ in 0..=self.left() {
+        for _ in 0..=self.count_left() {
             match self.kind() {
                 TokenKind::Operator(next) if is_chained(sign, next) => {
                     let operand = self.take_row_operand(depth)?;
@@ -172,7 +172,7 @@ impl<'a, 'b> TreeReader<'a, 'b> {
                 _ => break,
             }
         }
-        halved(self.alloc, row, sign)
+        tree_of_row(self.alloc, row, sign)
     }
 
     // The operator that is here, and the operand after it.
@@ -219,7 +219,7 @@ impl<'a, 'b> TreeReader<'a, 'b> {
     fn take_array_element(&mut self, depth: u8) -> Result<Box<SourceExpression<'a>>, ReadStop> {
         let name = self.take_name(ExpectedPart::Operand)?;
         let subscript = self.take_subscript(depth)?;
-        boxed(self.alloc, SourceExpression::Element(name, subscript))
+        box_of(self.alloc, SourceExpression::Element(name, subscript))
     }
 
     /// `[expression]`, with no subscript after it. Within it `depth` parentheses and brackets may begin, with its own.
@@ -268,7 +268,7 @@ impl<'a, 'b> TreeReader<'a, 'b> {
             _ => return Err(self.wrong_operand()),
         };
         self.take();
-        boxed(self.alloc, operand)
+        box_of(self.alloc, operand)
     }
 
     // `MOSTPOS INT` or `MOSTNEG INT`, which is this number.
@@ -278,7 +278,7 @@ impl<'a, 'b> TreeReader<'a, 'b> {
         match self.kind() {
             TokenKind::Type(DataType::Int) => {
                 self.take();
-                boxed(self.alloc, SourceExpression::Number(number, place))
+                box_of(self.alloc, SourceExpression::Number(number, place))
             }
             _ => Err(self.wrong(ExpectedPart::IntegerType)),
         }
@@ -370,7 +370,7 @@ fn monadic_sign(kind: TokenKind) -> Option<MonadicSign> {
 ///
 /// # Errors
 /// If there is no memory for it.
-pub fn boxed<'a>(
+pub fn box_of<'a>(
     alloc: Global,
     expression: SourceExpression<'a>,
 ) -> Result<Box<SourceExpression<'a>>, ReadStop> {

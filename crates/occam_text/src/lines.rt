@@ -37,7 +37,7 @@ struct StatementSpan {
 ///
 /// # Errors
 /// If there is no memory for them.
-pub fn words_of<'a>(
+pub fn words_of_text<'a>(
     alloc: Global,
     lines: &[NumberedLine<'a>],
 ) -> Result<TextWords<'a>, AllocError> {
@@ -124,7 +124,7 @@ impl<'a> TextWords<'a> {
         mut span: StatementSpan,
         mut line: LineRest<'a>,
     ) -> Result<Option<StatementSpan>, AllocError> {
-        for _ in 0..=line.left() {
+        for _ in 0..=line.count_left() {
             if line.is_at_end() {
                 break;
             }

@@ -128,7 +128,7 @@ impl<'a, 'b> TreeReader<'a, 'b> {
     // A parameter or more, with commas between them.
     fn take_formals_of_types(&mut self) -> Result<Vec<SourceFormals<'a>>, ReadStop> {
         let mut formals = Vec::new(self.alloc);
-        for _ in 0..=self.left() {
+        for _ in 0..=self.count_left() {
             let next = self.take_formals_of_type()?;
             formals.push(next)?;
             if !self.take_comma() {

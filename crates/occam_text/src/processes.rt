@@ -7,7 +7,7 @@ use crate::omissions::OmittedPart;
 use crate::statements::is_declaration;
 use crate::tree_reader::TreeReader;
 use crate::words::TokenKind;
-use occam_tree::{SourceChoice, SourceProcess, TextPlace};
+use occam_tree::{Replicator, SourceChoice, SourceProcess, TextPlace};
 use std::alloc::Global;
 
 /// How far a component is further in than its construct.
@@ -77,8 +77,18 @@ impl<'a, 'b> TreeReader<'a, 'b> {
         self.take();
         let below = blanks.saturating_add(STEP);
         match first.kind {
-            TokenKind::Seq => self.take_sequence(below, first.place, depth),
-            TokenKind::Par => self.take_parallel(below, first.place, depth),
+            TokenKind::Seq => self.take_processes(
+                below,
+                ProcessOrder::Sequence,
+                first.place,
+                depth,
+            ),
+            TokenKind::Par => self.take_processes(
+                below,
+                ProcessOrder::Parallel,
+                first.place,
+                depth,
+            ),
             TokenKind::If => self.take_if(below, first.place, depth),
             TokenKind::While => self.take_while(below, first.place, depth),
             TokenKind::Alt => self.take_alternation(below, first.place, depth),
@@ -93,53 +103,28 @@ impl<'a, 'b> TreeReader<'a, 'b> {
         }
     }
 
-    // What is after `SEQ`, which is at this place. Its components begin with as many blanks.
+    // What is after `SEQ` or `PAR`, whose components begin with as many blanks.
     #[cycle(process)]
-    fn take_sequence(
+    fn take_processes(
         &mut self,
         blanks: u32,
+        order: ProcessOrder,
         place: TextPlace,
         depth: u8,
     ) -> Result<Box<SourceProcess<'a>>, ReadStop> {
-        let construct = construct_at(ConstructKind::Sequence, place);
+        let construct = construct_at(order.construct(), place);
         if let TokenKind::Name = self.kind() {
             self.find_replicator(LINES_BELOW)?;
             let replicator = self.take_replicator()?;
             let process = self.take_body(blanks, construct, depth)?;
-            return boxed_process(
-                self.alloc,
-                SourceProcess::Repeated(place, replicator, process),
-            );
+            return boxed_process(self.alloc, order.replication(place, replicator, process));
         }
         self.take_line_end(ExpectedPart::LineEndOrReplicator)?;
         let components = self.take_components(blanks, construct, depth)?;
-        boxed_process(self.alloc, SourceProcess::Sequence(place, components))
+        boxed_process(self.alloc, order.process(place, components))
     }
 
-    // The same of `PAR`.
-    #[cycle(process)]
-    fn take_parallel(
-        &mut self,
-        blanks: u32,
-        place: TextPlace,
-        depth: u8,
-    ) -> Result<Box<SourceProcess<'a>>, ReadStop> {
-        let construct = construct_at(ConstructKind::Parallel, place);
-        if let TokenKind::Name = self.kind() {
-            self.find_replicator(LINES_BELOW)?;
-            let replicator = self.take_replicator()?;
-            let process = self.take_body(blanks, construct, depth)?;
-            return boxed_process(
-                self.alloc,
-                SourceProcess::ReplicatedParallel(place, replicator, process),
-            );
-        }
-        self.take_line_end(ExpectedPart::LineEndOrReplicator)?;
-        let components = self.take_components(blanks, construct, depth)?;
-        boxed_process(self.alloc, SourceProcess::Parallel(place, components))
-    }
-
-    // The same of `ALT` or `PRI ALT`.
+    // What is after `ALT` or `PRI ALT`, whose alternatives begin with as many blanks.
     #[cycle(process)]
     fn take_alternation(
         &mut self,
@@ -198,7 +183,7 @@ impl<'a, 'b> TreeReader<'a, 'b> {
         depth: u8,
     ) -> Result<Vec<Box<SourceProcess<'a>>>, ReadStop> {
         let mut components = Vec::new(self.alloc);
-        for _ in 0..=self.left() {
+        for _ in 0..=self.count_left() {
             if !self.is_at_component(blanks, Some(construct))? {
                 break;
             }
@@ -217,7 +202,7 @@ impl<'a, 'b> TreeReader<'a, 'b> {
         depth: u8,
     ) -> Result<Vec<SourceChoice<'a>>, ReadStop> {
         let mut choices = Vec::new(self.alloc);
-        for _ in 0..=self.left() {
+        for _ in 0..=self.count_left() {
             if !self.is_at_component(blanks, Some(construct))? {
                 break;
             }
@@ -256,6 +241,49 @@ impl<'a, 'b> TreeReader<'a, 'b> {
         let process = self.take_process(blanks, Some(construct), depth)?;
         self.find_no_second_process(blanks, construct)?;
         Ok(process)
+    }
+}
+
+// A construct of processes one after another, or all at the same time.
+#[derive(Clone, Copy)]
+enum ProcessOrder {
+    Sequence,
+    Parallel,
+}
+
+impl ProcessOrder {
+    fn construct(self) -> ConstructKind {
+        match self {
+            ProcessOrder::Sequence => ConstructKind::Sequence,
+            ProcessOrder::Parallel => ConstructKind::Parallel,
+        }
+    }
+
+    // The construct of these components.
+    fn process<'a>(
+        self,
+        place: TextPlace,
+        components: Vec<Box<SourceProcess<'a>>>,
+    ) -> SourceProcess<'a> {
+        match self {
+            ProcessOrder::Sequence => SourceProcess::Sequence(place, components),
+            ProcessOrder::Parallel => SourceProcess::Parallel(place, components),
+        }
+    }
+
+    // The construct of this component, once for each value of the index.
+    fn replication<'a>(
+        self,
+        place: TextPlace,
+        replicator: Replicator<'a>,
+        component: Box<SourceProcess<'a>>,
+    ) -> SourceProcess<'a> {
+        match self {
+            ProcessOrder::Sequence => SourceProcess::Repeated(place, replicator, component),
+            ProcessOrder::Parallel => SourceProcess::ReplicatedParallel(
+                place, replicator, component,
+            ),
+        }
     }
 }
 

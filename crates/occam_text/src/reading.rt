@@ -1,7 +1,7 @@
 //! Reads a whole text.
 ghost use Rattle.std.specs.Prelude.{◌≤◌, IfOk, length};
 
-use crate::lines::{TextWords, words_of};
+use crate::lines::{TextWords, words_of_text};
 use crate::mistakes::{ExpectedPart, GrammarMistake, MetPart, OccamTextFault};
 use crate::tree_reader::TreeReader;
 use occam_tree::{SourceProcess, TextPlace};
@@ -33,7 +33,7 @@ pub fn read_occam<'a>(
     if lines.len() > MOST_LINES {
         return Err(too_long(65_536));
     }
-    let words = words_of(alloc, lines.as_slice())?;
+    let words = words_of_text(alloc, lines.as_slice())?;
     tree_of_words(alloc, lines.as_slice(), &words)
 }
 

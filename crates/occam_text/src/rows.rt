@@ -1,6 +1,6 @@
 //! Rows of operands with AND between them, or with OR, which are halved, and each half again.
 
-use crate::expressions::boxed;
+use crate::expressions::box_of;
 use crate::mistakes::ReadStop;
 use occam_tree::{DyadicSign, SourceExpression, TextPlace};
 use std::alloc::Global;
@@ -33,7 +33,7 @@ impl<'a> RowOperand<'a> {
 ///
 /// # Errors
 /// If there is no memory for it.
-pub fn halved<'a>(
+pub fn tree_of_row<'a>(
     alloc: Global,
     mut row: Vec<RowOperand<'a>>,
     sign: DyadicSign,
@@ -42,7 +42,7 @@ pub fn halved<'a>(
         if row.len() <= 1 {
             break;
         }
-        row = paired(alloc, row, sign)?;
+        row = row_of_pairs(alloc, row, sign)?;
     }
     match row.pop() {
         Some(last) => {
@@ -54,7 +54,7 @@ pub fn halved<'a>(
 }
 
 // A row of half as many operands: each but perhaps the last has two neighbours of this one.
-fn paired<'a>(
+fn row_of_pairs<'a>(
     alloc: Global,
     row: Vec<RowOperand<'a>>,
     sign: DyadicSign,
@@ -66,14 +66,14 @@ fn paired<'a>(
         let Some(left) = rest.next() else {
             break;
         };
-        let pair = joined(alloc, left, rest.next(), sign)?;
+        let pair = pair_of(alloc, left, rest.next(), sign)?;
         pairs.push(pair)?;
     }
     Ok(pairs)
 }
 
 // Two neighbours as one operand, or the first if there is no second.
-fn joined<'a>(
+fn pair_of<'a>(
     alloc: Global,
     left: RowOperand<'a>,
     right: Option<RowOperand<'a>>,
@@ -87,6 +87,6 @@ fn joined<'a>(
     let both = SourceExpression::Dyadic(sign, operator, first, second);
     Ok(RowOperand {
         operator: place,
-        operand: boxed(alloc, both)?,
+        operand: box_of(alloc, both)?,
     })
 }

@@ -255,7 +255,7 @@ impl<'a, 'b> TreeReader<'a, 'b> {
         depth: u8,
     ) -> Result<Vec<Box<SourceDeclaration<'a>>>, ReadStop> {
         let mut declarations = Vec::new(self.alloc);
-        for _ in 0..=self.left() {
+        for _ in 0..=self.count_left() {
             self.take();
             let declaration = match self.kind() {
                 TokenKind::Proc => self.take_procedure(blanks, depth)?,

@@ -77,7 +77,7 @@ impl<'a, 'b> TreeReader<'a, 'b> {
     }
 
     /// How many words are left.
-    pub fn left(&self) -> usize {
+    pub fn count_left(&self) -> usize {
         self.words.tokens.len().saturating_sub(self.position)
     }
 

@@ -98,7 +98,7 @@ impl<'a, 'b> TreeReader<'a, 'b> {
     // The values of a table, with commas between them.
     fn take_table_values(&mut self) -> Result<Vec<Box<SourceExpression<'a>>>, ReadStop> {
         let mut values = Vec::new(self.alloc);
-        for _ in 0..=self.left() {
+        for _ in 0..=self.count_left() {
             let value = self.take_table_value()?;
             values.push(value)?;
             if !self.take_comma() {
@@ -132,7 +132,7 @@ impl<'a, 'b> TreeReader<'a, 'b> {
     // What is given to a procedure: a value or more, with commas between them.
     fn take_actuals(&mut self) -> Result<Vec<SourceValue<'a>>, ReadStop> {
         let mut values = Vec::new(self.alloc);
-        for _ in 0..=self.left() {
+        for _ in 0..=self.count_left() {
             let value = self.take_value(ExpectedPart::OneOperatorInInstance)?;
             values.push(value)?;
             if !self.take_comma() {

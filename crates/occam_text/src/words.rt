@@ -128,7 +128,7 @@ impl<'a> LineRest<'a> {
     }
 
     /// How many bytes are left.
-    pub fn left(&self) -> usize {
+    pub fn count_left(&self) -> usize {
         self.rest.len()
     }
 

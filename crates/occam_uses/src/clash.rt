@@ -24,10 +24,10 @@ impl Clash {
     pub fn subject(self) -> ClashSubject {
         let number = self.earlier.first.max(self.later.first);
         match self.later.way {
-            UsageWay::Changes | UsageWay::Reads => ClashSubject::Variable(narrowed(number / 4)),
+            UsageWay::Changes | UsageWay::Reads => ClashSubject::Variable(narrow(number / 4)),
             UsageWay::Sends | UsageWay::Receives => match u8::try_from(number) {
                 Ok(link) => ClashSubject::Link(link),
-                Err(_) => ClashSubject::Inside(narrowed(number.saturating_sub(256))),
+                Err(_) => ClashSubject::Inside(narrow(number.saturating_sub(256))),
             },
         }
     }
@@ -40,6 +40,6 @@ impl Clash {
 }
 
 // The number of a variable: that of the last, if there is none of this number.
-fn narrowed(number: u64) -> u32 {
+fn narrow(number: u64) -> u32 {
     u32::try_from(number).unwrap_or(u32::MAX)
 }

@@ -288,7 +288,7 @@ fn draw_hosts(svg: &mut TextWriter, plan: &AcceptedPlan, domain: u8)
 }
 
 // The port of a domain that is this physical one, if there is one.
-fn number_of(plan: &AcceptedPlan, domain: u8, physical: u8) -> Option<u8>
+fn virtual_number(plan: &AcceptedPlan, domain: u8, physical: u8) -> Option<u8>
     requires { domain < length plan.now }
     ensures { IfSome result (λ n. IfSome (slice_get plan.now domain) (λ d. n < length (physical_ports d))) }
 {
@@ -312,7 +312,7 @@ fn draw_wires(svg: &mut TextWriter, plan: &AcceptedPlan, domain: u8, words: &[Wo
         let Some(connection) = word.connection() else {
             continue;
         };
-        let Some(from) = number_of(plan, domain, connection.input) else {
+        let Some(from) = virtual_number(plan, domain, connection.input) else {
             continue;
         };
         let input = port_view(plan, domain, from);

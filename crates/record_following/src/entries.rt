@@ -101,7 +101,7 @@ impl Follower {
     fn follow_before(&mut self, entry: Entry, most: u64) -> Result<(), FollowFault>
         ensures { OnOk result (MovesOn self.old (calls_before most self.old (entry_calls (entry ∷ []))) self.new) }
     {
-        let left = most.saturating_sub(self.recorded());
+        let left = most.saturating_sub(self.recorded_events());
         if left == 0 {
             return Ok(());
         }

@@ -77,10 +77,10 @@ impl Follower {
     }
 
     /// How many events were recorded till then.
-    pub fn recorded(&self) -> u64
+    pub fn recorded_events(&self) -> u64
         ensures { result ≡ self.now.recorded }
     {
-        self.moment.recorded()
+        self.moment.recorded_events()
     }
 
     /// What was noted on the way.
@@ -113,13 +113,13 @@ impl Follower {
     {
         // What comes next makes a history longer.
         histories_grow();
-        let before = self.moment.recorded();
+        let before = self.moment.recorded_events();
         let times = 1;
         let glance = glance_before(&mut self.moment, event)?;
         let call = RecordedCall { times, by, event };
         self.trail.note(self.alloc, &self.moment, call)?;
         let reply = self.moment.apply(by, event)?;
-        let after = self.moment.recorded();
+        let after = self.moment.recorded_events();
         if after <= before || after - before != 1 {
             return Err(FollowFault::NotRecorded);
         }

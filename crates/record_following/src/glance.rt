@@ -67,7 +67,7 @@ fn resume_process(memory: &Memory, cpu: Cpu) -> Option<Cpu> {
     }
     let workspace = cpu.queue.front - cpu.queue.front % 4;
     match memory.word(workspace.wrapping_sub(4)) {
-        Ok(instruction) => Some(Cpu::started(instruction, workspace)),
+        Ok(instruction) => Some(Cpu::new(instruction, workspace)),
         Err(_) => None,
     }
 }

@@ -147,13 +147,13 @@ impl Progress {
         ensures some { IfOk result (λ outcome. self.old.follower.recorded < self.new.follower.recorded) }
         ensures rest { IfOk result (λ outcome. self.new.rest.times ≡ self.old.rest.times - most) }
     {
-        let begun = self.follower.recorded();
+        let begun = self.follower.recorded_events();
         let mut outcome = self.go_on(most, meter)?;
-        let mut left = most - (self.follower.recorded() - begun);
+        let mut left = most - (self.follower.recorded_events() - begun);
         while left > 0 && self.rest.times > 0 {
-            let before = self.follower.recorded();
+            let before = self.follower.recorded_events();
             outcome = self.go_on(left, meter)?;
-            left -= self.follower.recorded() - before;
+            left -= self.follower.recorded_events() - before;
         }
         Ok(outcome)
     }
@@ -215,7 +215,7 @@ impl Progress {
         ensures stops { OnOk result (self.new.follower.recorded < event → self.new.rest.times ≡ 0) }
         ensures next { OnOk result (self.new.next ≡ self.old.next) }
     {
-        let times = self.rest.times.min(event - self.follower.recorded());
+        let times = self.rest.times.min(event - self.follower.recorded_events());
         if times > 0 {
             self.follow_some(times)?;
         }
@@ -231,7 +231,7 @@ impl Progress {
         ensures there { OnOk result (ComesTo (said_by lines.now) event self.old self.new) }
     {
         self.follow_rest(event)?;
-        while self.next < lines.len() && self.follower.recorded() < event {
+        while self.next < lines.len() && self.follower.recorded_events() < event {
             self.begin_line(lines);
             self.follow_rest(event)?;
         }

@@ -91,7 +91,7 @@ impl<'p> LineReader<'p> {
         line: NumberedLine<'_>,
         asked: &mut Vec<AskedLine<'a>>,
     ) -> Result<Option<String>, AllocError> {
-        let Some(expanded) = self.expanded(line)? else {
+        let Some(expanded) = self.expansion_of(line)? else {
             return self.read_plain(user, line, asked);
         };
         let Expanded { text, wrong } = expanded;
@@ -107,7 +107,7 @@ impl<'p> LineReader<'p> {
     }
 
     // The plain lines into which a line is spelled out, if it helps.
-    fn expanded(&self, line: NumberedLine<'_>) -> Result<Option<Expanded>, AllocError> {
+    fn expansion_of(&self, line: NumberedLine<'_>) -> Result<Option<Expanded>, AllocError> {
         match std::str::from_utf8(line.text) {
             Ok(text) => expanded_line(self.alloc, line.number, text, self.files),
             Err(_) => Ok(None),

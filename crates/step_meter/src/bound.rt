@@ -31,7 +31,7 @@ impl StepBound {
     }
 
     /// How many Steps were done.
-    pub fn done(&self) -> u64
+    pub fn steps_done(&self) -> u64
         ensures { result ≡ self.now.done }
     {
         self.done

@@ -24,6 +24,19 @@ pub struct Assembly {
 }
 
 impl Assembly {
+    /// The bytes alone.
+    pub fn into_code(self) -> Vec<u8>
+        ensures { result ≡ self.image.bytes }
+    {
+        let Assembly {
+            statements: _,
+            lines: _,
+            image,
+        } = self;
+        let Image { bytes, starts: _ } = image;
+        bytes
+    }
+
     /// The bytes of the statements of the line of this index, from 0.
     pub(crate) fn code_of_line(&self, index: usize) -> &[u8] {
         let first = self.start_of_line(index);
@@ -149,7 +162,7 @@ fn too_long(line: NumberedLine<'_>) -> Mismatch<'_> {
     cursor.skip_blanks();
     Mismatch {
         expected: Expected::Length,
-        left: cursor.left(),
+        left: cursor.bytes_left(),
         hint: None,
     }
 }

@@ -27,7 +27,7 @@ impl<'a> Cursor<'a> {
     }
 
     /// How many bytes are left.
-    pub fn left(&self) -> usize {
+    pub fn bytes_left(&self) -> usize {
         self.rest.len()
     }
 
@@ -118,7 +118,7 @@ impl<'a> Cursor<'a> {
     }
 
     fn take_decimal(&mut self, most: u64) -> u32 {
-        let left = self.left();
+        let left = self.bytes_left();
         if self.rest.starts_with(b"0x") || self.rest.starts_with(b"0X") {
             self.refuse(Expected::Number);
         }
@@ -133,7 +133,7 @@ impl<'a> Cursor<'a> {
     }
 
     fn take_hexadecimal(&mut self) -> u32 {
-        let left = self.left();
+        let left = self.bytes_left();
         let digits = self.take_text(hexadecimal_length(self.rest));
         match hexadecimal_word(digits) {
             Some(number) => number,
@@ -160,7 +160,7 @@ impl<'a> Cursor<'a> {
     ///
     /// Source: occam 2, the escapes of characters.
     pub fn take_character(&mut self) -> u8 {
-        let left = self.left();
+        let left = self.bytes_left();
         match self.take_first() {
             Some(b'*') => self.take_escape(),
             Some(byte) if matches!(byte, b'\t' | b' '..=b'~') => byte,
@@ -176,7 +176,7 @@ impl<'a> Cursor<'a> {
     }
 
     fn take_escape(&mut self) -> u8 {
-        let left = self.left();
+        let left = self.bytes_left();
         match self.take_first() {
             Some(b'n') => b'\n',
             Some(b'c') => b'\r',
@@ -193,7 +193,7 @@ impl<'a> Cursor<'a> {
 
     // A character by its code in two hexadecimal digits.
     fn take_character_code(&mut self) -> u8 {
-        let left = self.left();
+        let left = self.bytes_left();
         let digits = self.take_text(2);
         match hexadecimal_word(digits) {
             Some(code) if code < 0x100 && digits.len() == 2 => code as u8,

@@ -122,7 +122,7 @@ impl<'a> Reader<'a> {
         let name = cursor.take_name();
         if !name.is_empty() && cursor.take_if(b':') {
             let place = Named::Place(self.statements.len());
-            self.define(name, place, start.left(), &mut cursor);
+            self.define(name, place, start.bytes_left(), &mut cursor);
         } else {
             cursor = start;
         }
@@ -170,7 +170,7 @@ impl<'a> Reader<'a> {
 
     // Reads one statement, a list or definitions.
     fn read_statement(&mut self, cursor: &mut Cursor<'a>) {
-        let left = cursor.left();
+        let left = cursor.bytes_left();
         let name = cursor.take_name();
         cursor.skip_blanks();
         match name {
@@ -194,7 +194,7 @@ impl<'a> Reader<'a> {
 
     fn read_operation(&mut self, name: &'a str, code: u32, cursor: &mut Cursor<'a>) {
         if !cursor.is_at_end() {
-            let left = cursor.left();
+            let left = cursor.bytes_left();
             cursor.refuse_with(Expected::End, left, Some(Hint::NoOperand(name)));
         }
         self.add(Statement::Instruction(Function::Operate, Operand::Number(code)));
@@ -236,7 +236,7 @@ impl<'a> Reader<'a> {
         most: u32,
         expected: Expected,
     ) -> u32 {
-        let left = cursor.left();
+        let left = cursor.bytes_left();
         let sum = self.read_constant(cursor, expected);
         if sum.number().wrapping_add(below) > most.saturating_add(below) {
             refuse_value(cursor, sum, expected, left);
@@ -259,7 +259,7 @@ impl<'a> Reader<'a> {
     fn read_sum(&self, cursor: &mut Cursor<'a>, expected: Expected) -> Sum<'a> {
         let mut sum = Sum::of(0);
         self.read_term(cursor, &mut sum, false, expected);
-        for _ in 0..=cursor.left() {
+        for _ in 0..=cursor.bytes_left() {
             if cursor.is_at_end() {
                 break;
             }
@@ -298,7 +298,7 @@ impl<'a> Reader<'a> {
 
     // A name in a sum. Any name may still be unknown while names are gathered.
     fn read_named(&self, cursor: &mut Cursor<'a>, sum: &mut Sum<'a>, is_subtracted: bool) {
-        let left = cursor.left();
+        let left = cursor.bytes_left();
         let name = cursor.take_name();
         match self.definition_of(name) {
             Some(definition) => match definition.value {
@@ -321,7 +321,7 @@ impl<'a> Reader<'a> {
 
     // A name for the number of a sum of numbers and of names that are defined above.
     fn read_definition(&mut self, cursor: &mut Cursor<'a>) {
-        let left = cursor.left();
+        let left = cursor.bytes_left();
         let name = cursor.take_name();
         if name.is_empty() {
             cursor.refuse(Expected::Name);
@@ -347,8 +347,8 @@ impl<'a> Reader<'a> {
 
     // Names for the next words of the workspace.
     fn read_locals(&mut self, cursor: &mut Cursor<'a>) {
-        for _ in 0..=cursor.left() {
-            let left = cursor.left();
+        for _ in 0..=cursor.bytes_left() {
+            let left = cursor.bytes_left();
             let name = cursor.take_name();
             if name.is_empty() {
                 cursor.refuse(Expected::Name);
@@ -363,7 +363,7 @@ impl<'a> Reader<'a> {
 
     // Values of bytes or words, and strings of them, with commas between them.
     fn read_list(&mut self, cursor: &mut Cursor<'a>, unit: Unit) {
-        for _ in 0..=cursor.left() {
+        for _ in 0..=cursor.bytes_left() {
             if cursor.take_if(b'"') {
                 self.read_string(cursor, unit);
             } else {
@@ -391,7 +391,7 @@ impl<'a> Reader<'a> {
 
     // The characters of a string, up to its closing quote, each as a byte or a word.
     fn read_string(&mut self, cursor: &mut Cursor<'a>, unit: Unit) {
-        for _ in 0..=cursor.left() {
+        for _ in 0..=cursor.bytes_left() {
             if cursor.take_if(b'"') || cursor.mismatch().is_some() {
                 break;
             }
@@ -409,7 +409,7 @@ impl<'a> Reader<'a> {
             self.add(Statement::Align(4));
             return;
         }
-        let left = cursor.left();
+        let left = cursor.bytes_left();
         let sum = self.read_constant(cursor, Expected::Alignment);
         let size = sum.number();
         if size > 256 || !size.is_power_of_two() {

@@ -70,7 +70,7 @@ impl Cpu {
 
     // The transfer of outbyte and outword: `count` bytes from the word at the workspace, through channel B.
     #[inline(always)]
-    pub(crate) fn sent(&self, count: u32) -> Transfer
+    pub(crate) fn outgoing_transfer(&self, count: u32) -> Transfer
         ensures { result ≡ transfer count self.now.b self.now.workspace }
     {
         Transfer {

@@ -39,7 +39,7 @@ impl Cpu {
 
     /// The registers of a running processor that has done nothing: its code is at an address, its workspace at another,
     /// A, B and C are 0, the queue is empty and both flags are clear.
-    pub fn started(instruction: u32, workspace: u32) -> Cpu
+    pub fn new(instruction: u32, workspace: u32) -> Cpu
         ensures { result ≡ started instruction workspace }
     {
         Cpu {

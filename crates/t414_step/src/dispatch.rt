@@ -185,11 +185,11 @@ impl Cpu {
             ChannelOperation::OutputMessage => (TransferDirection::Output, self.transfer()),
             ChannelOperation::OutputByte => {
                 memory.set_word(self.workspace, self.a)?;
-                (TransferDirection::Output, self.sent(1))
+                (TransferDirection::Output, self.outgoing_transfer(1))
             }
             ChannelOperation::OutputWord => {
                 memory.set_word(self.workspace, self.a)?;
-                (TransferDirection::Output, self.sent(4))
+                (TransferDirection::Output, self.outgoing_transfer(4))
             }
             ChannelOperation::ResetChannel => return self.reset_channel(memory, links),
             ChannelOperation::DisableChannel => return self.disable_channel(memory, links),

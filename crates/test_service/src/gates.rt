@@ -61,7 +61,7 @@ impl Holding {
 
 impl Holding {
     /// What it has seen.
-    pub fn seen<R: Wait>(&self, rt: &R) -> TurnsSeen {
+    pub fn turns<R: Wait>(&self, rt: &R) -> TurnsSeen {
         TurnsSeen {
             begun: self.begun.load(Ordering::SeqCst),
             committed: *self.committed.lock(rt),

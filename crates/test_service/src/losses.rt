@@ -81,7 +81,7 @@ impl Loss {
     }
 
     // What was left, after the loss.
-    fn closed(self, alloc: Global, closed: &Closed) -> Result<Closed, NoMemory> {
+    fn close(self, alloc: Global, closed: &Closed) -> Result<Closed, NoMemory> {
         let mut domains = Vec::with_capacity(alloc, closed.domains.len())?;
         for domain in closed.domains.iter() {
             domains.push(ClosedDomain {
@@ -112,7 +112,7 @@ impl Loss {
         closed: &Closed,
         watch: &Watch,
     ) -> Result<bool, NoMemory> {
-        let lost = self.closed(alloc, closed)?;
+        let lost = self.close(alloc, closed)?;
         Ok(!is_alike(alloc, plan, &lost, watch, 1)?)
     }
 }

@@ -35,7 +35,7 @@ use std::thread::Threads;
 use std::{env, io};
 
 // What a row tells.
-fn told<R: Threads + Wait + Sync>(
+fn report_of_row<R: Threads + Wait + Sync>(
     rt: &R,
     alloc: Global,
     ground: Ground,
@@ -102,7 +102,11 @@ fn tell_rows<R: Threads + Wait + Sync + Print>(rt: &R, alloc: Global) -> io::Res
             stages,
             left,
         } = *row;
-        show(rt, name, told(rt, alloc, ground, workers, stages, left))?;
+        show(
+            rt,
+            name,
+            report_of_row(rt, alloc, ground, workers, stages, left),
+        )?;
     }
     Ok(())
 }

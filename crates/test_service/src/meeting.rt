@@ -114,7 +114,7 @@ fn act_all<R: Threads + Wait + Sync>(
         }
     };
     over.store(true, Ordering::SeqCst);
-    let seen = gate.seen(rt);
+    let seen = gate.turns(rt);
     let shift = AfterWork {
         passes,
         seen,
@@ -124,7 +124,7 @@ fn act_all<R: Threads + Wait + Sync>(
 }
 
 // All of them. If no thread can be started for the operator, there is one survey when all is over.
-fn watched<R: Threads + Wait + Sync>(
+fn watch_all<R: Threads + Wait + Sync>(
     rt: &R,
     alloc: Global,
     service: &Service,
@@ -183,7 +183,7 @@ pub fn run_meeting<R: Threads + Wait + Sync>(
         passes,
         operator,
     } = farm;
-    let ((operator, watch), (shift, users)) = watched(
+    let ((operator, watch), (shift, users)) = watch_all(
         rt, alloc, &service, passes, operator, users, watch, meeting,
     );
     let AfterWork {

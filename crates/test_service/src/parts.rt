@@ -116,7 +116,7 @@ pub fn feed_switch(alloc: Global) -> Result<(), Otherwise> {
     if plan.domains() == 0 {
         return Err(Otherwise);
     }
-    let mut switch = VirtualSwitch::new(PlainOutputs::unused(plan.ranges(0)));
+    let mut switch = VirtualSwitch::new(PlainOutputs::new(plan.ranges(0)));
     let bytes = [1, 0, 1, 2, 0, 7, 2, 8];
     let replies = match switch.feed_all(alloc, &bytes) {
         Err(_) => switch.feed_all(alloc, &bytes),

@@ -66,7 +66,7 @@ fn entry(farm: &PlainFarm, domain: u8, index: usize) -> Option<Entry> {
     farm.journal(domain)?.get(index)
 }
 
-fn shown(farm: &mut PlainFarm) -> Sight {
+fn sight_of(farm: &mut PlainFarm) -> Sight {
     let mut words = [None; 8];
     for output in 0..8u8 {
         words[usize::from(output)] = farm.domain_word(ANN, output).map(|word| word.bits);
@@ -77,7 +77,7 @@ fn shown(farm: &mut PlainFarm) -> Sight {
         None => 0,
     };
     Sight {
-        recorded: farm.recorded(ANN),
+        recorded: farm.recorded_events(ANN),
         entries,
         last: entry(farm, ANN, entries.wrapping_sub(1)),
         words,
@@ -106,10 +106,10 @@ fn asked_again(
     by: By,
     event: Event,
 ) -> Result<Reply, Otherwise> {
-    let before = shown(farm);
+    let before = sight_of(farm);
     let answer = match farm.apply(alloc, domain, by, event) {
         Err(Refusal::NoMemory) => {
-            holds(shown(farm) == before)?;
+            holds(sight_of(farm) == before)?;
             farm.apply(alloc, domain, by, event)
         }
         answer => answer,
@@ -122,10 +122,10 @@ fn asked_again(
 
 // A ticket of ann's node, asked for again after a refusal.
 fn checked_out_again(alloc: Global, farm: &mut PlainFarm) -> Result<Ticket, Otherwise> {
-    let before = shown(farm);
+    let before = sight_of(farm);
     let answer = match farm.checkout(alloc, ANN, 0) {
         Err(Refusal::NoMemory) => {
-            holds(shown(farm) == before)?;
+            holds(sight_of(farm) == before)?;
             farm.checkout(alloc, ANN, 0)
         }
         answer => answer,
@@ -137,7 +137,10 @@ fn checked_out_again(alloc: Global, farm: &mut PlainFarm) -> Result<Ticket, Othe
 }
 
 // What became of a ticket of ann's node that does 100 Steps and is committed.
-fn committed(alloc: Global, farm: &mut PlainFarm) -> Result<Result<Committed, Refusal>, Otherwise> {
+fn commit_of_ticket(
+    alloc: Global,
+    farm: &mut PlainFarm,
+) -> Result<Result<Committed, Refusal>, Otherwise> {
     let mut ticket = checked_out_again(alloc, farm)?;
     ticket.burst(100);
     Ok(farm.commit(alloc, ANN, ticket))
@@ -145,11 +148,11 @@ fn committed(alloc: Global, farm: &mut PlainFarm) -> Result<Result<Committed, Re
 
 // A ticket comes home. If memory is refused then, the ticket is spent, and another does the Steps.
 fn come_home_again(alloc: Global, farm: &mut PlainFarm) -> Result<(), Otherwise> {
-    let before = shown(farm);
-    let told = match committed(alloc, farm)? {
+    let before = sight_of(farm);
+    let told = match commit_of_ticket(alloc, farm)? {
         Err(Refusal::NoMemory) => {
-            holds(shown(farm) == before)?;
-            committed(alloc, farm)?
+            holds(sight_of(farm) == before)?;
+            commit_of_ticket(alloc, farm)?
         }
         told => told,
     };
@@ -194,9 +197,9 @@ fn loaded_again(alloc: Global) -> Result<PlainFarm, Otherwise> {
 // A farm in which that node did 100 Steps more: one entry in ann's journal.
 fn stepped_again(alloc: Global) -> Result<(PlainFarm, Sight), Otherwise> {
     let mut farm = loaded_again(alloc)?;
-    holds(shown(&mut farm).entries == 16)?;
+    holds(sight_of(&mut farm).entries == 16)?;
     come_home_again(alloc, &mut farm)?;
-    let seen = shown(&mut farm);
+    let seen = sight_of(&mut farm);
     Ok((farm, seen))
 }
 

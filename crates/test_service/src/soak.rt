@@ -142,7 +142,7 @@ fn wrong_of(
 }
 
 // A service of a size: users ask for anything while workers work and the operator surveys.
-fn soaked<R: Threads + Wait + Sync>(
+fn soak_service<R: Threads + Wait + Sync>(
     rt: &R,
     alloc: Global,
     size: Size,
@@ -171,7 +171,7 @@ struct SoakCounts {
 }
 
 // A service of a size whose rounds end, and what it left compared.
-fn compared<R: Threads + Wait + Sync>(
+fn compare_services<R: Threads + Wait + Sync>(
     rt: &R,
     alloc: Global,
     (size, first): (Size, &'static [&'static [Action]]),
@@ -179,7 +179,7 @@ fn compared<R: Threads + Wait + Sync>(
     seed: u64,
     plants: bool,
 ) -> Result<SoakCounts, AllocError> {
-    let ended = soaked(rt, alloc, size, first, rounds, seed)?;
+    let ended = soak_service(rt, alloc, size, first, rounds, seed)?;
     let (events, words) = count_of(&ended.closed);
     Ok(SoakCounts {
         wrong: wrong_of(alloc, size, seed, &ended, plants)?,
@@ -202,7 +202,7 @@ fn run<R: Threads + Wait + Sync + Print>(
     for count in 0..rounds.count {
         let seed = rounds.seed.wrapping_add(count);
         for sized in SIZES {
-            let Ok(counts) = compared(rt, alloc, sized, rounds, seed, count == 0) else {
+            let Ok(counts) = compare_services(rt, alloc, sized, rounds, seed, count == 0) else {
                 return Err(io::Error::from(io::ErrorKind::OutOfMemory));
             };
             wrong = wrong.saturating_add(counts.wrong);

@@ -260,7 +260,7 @@ fn was_out_of_memory(party: &Party) -> bool {
 }
 
 // What is left when the users have given up their passes and the service is closed.
-fn closed<R: Wait>(
+fn close_all<R: Wait>(
     rt: &R,
     alloc: Global,
     farm: OpenedFarm,
@@ -281,7 +281,7 @@ fn end<R: Wait>(rt: &R, alloc: Global, party: Party, said: String) -> Result<Sta
     } = party;
     let answered = answered_by(users.as_slice());
     Ok(StageEnd {
-        closed: closed(rt, alloc, farm, users)?,
+        closed: close_all(rt, alloc, farm, users)?,
         said,
         answered,
         watch,

@@ -3,4 +3,4 @@ use Rattle.farm_core.proofs.farm.open_domain.Goals as goal
 
 pub returns-clause-words : goal.returns-clause-words
 returns-clause-words c =
-    opened_unused c.open.result 32 c.unused.result c.ranges-2.result c.unused.ensures.row c.open.ensures.row
+    opened_unused c.open.result 32 c.new.result c.ranges-2.result c.new.ensures.row c.open.ensures.row

@@ -8,5 +8,6 @@ pub returns-clause-line : goal.returns-clause-line
 returns-clause-line g c =
     last_answered c.write_line.result c.args.name.now c.args.command.now c.args.session.now c.ask_line-ended.new.session
     c.ask_line-ended.result c.ask_line-ended.ensures
-    c.told-before.result.now c.told.result.now _ _ c.told-before.ensures c.told.ensures c.write_line.ensures.memory
+    c.commands-before.result.now c.commands.result.now _ _ c.commands-before.ensures c.commands.ensures
+    c.write_line.ensures.memory
     c.write_line.ensures.text

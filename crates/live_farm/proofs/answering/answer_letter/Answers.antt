@@ -11,6 +11,7 @@ pub returns-in-Asked-Domain-Rest-clause-answer : goal.returns-in-Asked-Domain-Re
 returns-in-Asked-Domain-Rest-clause-answer g c =
     let is : c.args.letter.now.matter ≡ matter.Asked (request.Domain whole.Rest) = search rules in
     rest_answered c.args.group.now c.args.letter.now c.answer_rest.result is
-    (subst (λ (user : ℕ). IfOk c.answer_rest.result (λ a. AnswersRest c.args.group.now user (string_bytes a.text)))
+    (subst
+    (λ (user : ℕ). IfOk c.answer_rest.result (λ a. AnswersRest c.args.group.now user (string_bytes a.lines.text)))
     c.from-user.ensures c.answer_rest.ensures.rest)
     c.answer_rest.ensures.anew

@@ -11,5 +11,5 @@ loop-session-preserved c =
     let more =
     sum_by_more (λ (s : SessionValue). length s.pass.told) sessions i session c.loop-session-test.true in
     let item = ap (λ (s : SessionValue). length s.pass.told) (sym c.session-item.is) in
-    let told = ap length c.told.ensures in
+    let told = ap length c.commands.ensures in
     omega (arith, more, item, told, c.loop-session.invariant, c.saturating_add-commands.ensures)

@@ -10,5 +10,5 @@ returns c =
     subst (λ (t : List ℕ). IsExplained c.args.follower.now None t) (sym c.as_str.ensures.value)
     c.in_ok-causes.ensures in
     IfOk-weaker c.led_words.result _ _
-    (λ _ is. (causes, explained, is ∙ ap (λ (k : ℕ). led_text k c.args.is_cut causes) c.recorded.ensures))
+    (λ _ is. (causes, explained, is ∙ ap (λ (k : ℕ). led_text k c.args.is_cut causes) c.recorded_events.ensures))
     c.led_words.ensures

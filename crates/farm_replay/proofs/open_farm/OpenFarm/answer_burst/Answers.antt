@@ -21,7 +21,7 @@ returns-clause-calls g c =
     c.push.new.self)
     (λ i. (sym c.in-Farm-Step.is-0 i, sym c.in-Farm-Step.is-1 i))
     (answers_steps c.args.domain c.in-Farm-Step.node before c.in-Some.field-0.last
-    (string_bytes c.in_ok-stepped.field-0) (string_bytes c.in_ok-stepped-2.field-0) old new c.args.answers.now
+    (string_bytes c.in_ok-step_answer.field-0) (string_bytes c.in_ok-step_answer-2.field-0) old new c.args.answers.now
     c.push_many.new.self c.push.new.self stepped.1
-    c.in_ok-stepped.ensures.text c.in_ok-stepped-2.ensures.text c.in_ok-push_many.ensures.kept
+    c.in_ok-step_answer.ensures.text c.in_ok-step_answer-2.ensures.text c.in_ok-push_many.ensures.kept
     c.in_ok-push.ensures.kept)

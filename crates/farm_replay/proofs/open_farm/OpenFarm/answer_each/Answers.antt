@@ -12,8 +12,9 @@ returns-then-eq c =
     let sum : l.asked + (a.times - l.asked) ≡ a.times = omega (arith, c.loop-asked-test.true) in
     let some : 0 < a.times - l.asked = omega (arith, c.loop-asked-test.true) in
     let same =
-    sym c.recorded.ensures ∙ same_count c.recorded.result c.recorded-before.result (sym c.eq.ensures ∙ c.if-eq.true)
-    ∙ c.recorded-before.ensures in
+    sym c.recorded_events.ensures
+    ∙ same_count c.recorded_events.result c.recorded_events-before.result (sym c.eq.ensures ∙ c.if-eq.true)
+    ∙ c.recorded_events-before.ensures in
     record {
       calls = on_ok c.push_many.result
           (λ more.

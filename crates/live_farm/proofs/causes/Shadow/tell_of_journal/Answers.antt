@@ -21,5 +21,5 @@ returns g c = record {
       subst
       (λ (done : ℕ). string_bytes c.in_ok-tell.field-0
       ≡ moment_text c.args.status c.bytes-room.result done c.as_str.result.now)
-      c.recorded-done.ensures c.in_ok-tell.ensures;
+      c.recorded_events-done.ensures c.in_ok-tell.ensures;
 }

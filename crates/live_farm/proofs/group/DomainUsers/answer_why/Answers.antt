@@ -1,32 +1,10 @@
-use Rattle.std.proofs.Common.{◌≡◌, ◌≤◌, rules, inl, inr, sym, subst, ℕ, Option, Some, IfSome, length, slice_get, string_bytes}
-use Rattle.std.proofs.lemmas.Result.{IfOk-weaker}
-use Rattle.live_farm.specs.Groups.{LacksNode}
+use Rattle.std.proofs.Common.{subst, sym, string_bytes}
+use Rattle.live_farm.specs.declared.texts.LiveAnswer.{LiveAnswer}
+use Rattle.live_farm.specs.Groups.{AnswersWhy}
 use Rattle.live_farm.proofs.group.DomainUsers.answer_why.Goals as goal
 
 pub returns-clause-why : goal.returns-clause-why
 returns-clause-why g c =
-    let group = c.args.self.now in
-    let name = c.name-name.result.now in
-    let lacks : IfSome (slice_get group.service.now.plan group.domain) (λ d. length d.nodes ≤ c.in-Some.node) =
-    search rules in
-    IfOk-weaker c.no_node_answer.result _ _
-    (λ a is. (
-      c.name-name.result,
-      c.name-name.ensures,
-      inr (inl (subst (λ (n : Option ℕ). LacksNode group n name (string_bytes a.text)) (sym c.in-Some.is) (lacks, is))),
-    ))
-    c.no_node_answer.ensures.text
-
-pub returns-in-Ok-clause-why : goal.returns-in-Ok-clause-why
-returns-in-Ok-clause-why g c =
-    IfOk-weaker c.why_answer.result _ _
-    (λ a is. (c.name-name.result, c.name-name.ensures, inl (c.as_str.result.now, search rules, is)))
-    c.why_answer.ensures.text
-
-pub returns-in-Err : goal.returns-in-Err
-returns-in-Err g c = record {
-  why =
-      IfOk-weaker c.error_answer.result _ _ (λ a is. (c.name-name.result, c.name-name.ensures, inr (inr is)))
-      c.error_answer.ensures.text;
-  anew = c.error_answer.ensures.anew;
-}
+    subst
+    (λ (lines : LiveAnswer). AnswersWhy c.args.self.now c.args.user c.args.number c.args.node (string_bytes lines.text))
+    (sym c.of_line.ensures.lines) c.in_ok-lines.ensures

@@ -1,8 +1,8 @@
 use Rattle.std.proofs.Common.{◌+◌, ◌*◌}
 use Rattle.occam_names.proofs.namer.Namer.+process.Given as goal
 
-abbrev pub decreases-declared : goal.decreases-declared
-decreases-declared l = 7 * l.depth + 6
+abbrev pub decreases-with_declarations : goal.decreases-with_declarations
+decreases-with_declarations l = 7 * l.depth + 6
 
 abbrev pub decreases-declare : goal.decreases-declare
 decreases-declare l = 7 * l.depth + 5
@@ -22,8 +22,8 @@ decreases-put_in_place l = 7 * l.depth + 2
 abbrev pub decreases-sequence : goal.decreases-sequence
 decreases-sequence l = 7 * l.depth + 1
 
-abbrev pub decreases-repeated : goal.decreases-repeated
-decreases-repeated l = 7 * l.depth + 1
+abbrev pub decreases-repetition : goal.decreases-repetition
+decreases-repetition l = 7 * l.depth + 1
 
 abbrev pub decreases-branching : goal.decreases-branching
 decreases-branching l = 7 * l.depth + 5

@@ -4,11 +4,8 @@ use Rattle.occam_text.proofs.tree_reader.TreeReader.+process.Given as goal
 abbrev pub decreases-take_construct : goal.decreases-take_construct
 decreases-take_construct l = 16 * l.depth + 9
 
-abbrev pub decreases-take_sequence : goal.decreases-take_sequence
-decreases-take_sequence l = 16 * l.depth + 8
-
-abbrev pub decreases-take_parallel : goal.decreases-take_parallel
-decreases-take_parallel l = 16 * l.depth + 8
+abbrev pub decreases-take_processes : goal.decreases-take_processes
+decreases-take_processes l = 16 * l.depth + 8
 
 abbrev pub decreases-take_alternation : goal.decreases-take_alternation
 decreases-take_alternation l = 16 * l.depth + 8

@@ -4,7 +4,7 @@ use Rattle.record_following.specs.declared.line.RecordedLine.{RecordedLine}
 use Rattle.record_following.specs.Progress.{said_by}
 use Rattle.record_following.proofs.Led.{led}
 use Rattle.record_following.proofs.progress.Progress.lead.Goals as goal
-use Rattle.record_following.proofs.progress.Progress.lead.Goals.{then-loop-self-test+else-recorded-event}
+use Rattle.record_following.proofs.progress.Progress.lead.Goals.{then-loop-self-test+else-recorded_events-event}
 use Rattle.record_following.proofs.progress.Progress.lead.Goals.{else-loop-self-test}
 
 pub returns-clause-there : goal.returns-clause-there
@@ -16,7 +16,8 @@ returns-clause-there c = λ plan was.
     elim c.loop-self-test.branch as
     (λ b. c.loop-self.self.follower.recorded < c.args.event
     → length (said_by c.args.lines.now) ≤ c.loop-self.self.next) [
-      | then-loop-self-test+else-recorded-event w ↦ λ before. omega (arith, w.if-recorded-event, w.recorded, before)
+      | then-loop-self-test+else-recorded_events-event w ↦
+          λ before. omega (arith, w.if-recorded_events-event, w.recorded_events, before)
       | else-loop-self-test w ↦ λ before. omega (arith, w.loop-self-test, same)
     ] in
     led plan (said_by c.args.lines.now) c.loop-self.self c.args.event (c.loop-self.invariant.progress plan was)

@@ -1,7 +1,6 @@
 //! The folder of a farm's records.
 
-use crate::failure::LiveFailure;
-use live_lines::RecordSettings;
+use crate::failure::FileFailure;
 use std::alloc::Global;
 use std::fs::{self, File, Files, OpenOptions, TryLockError};
 use std::io;
@@ -31,16 +30,20 @@ impl<F: Files<File = File>> Drop for RecordFolder<'_, F> {
 }
 
 impl<'a, F: Files<File = File>> RecordFolder<'a, F> {
-    /// Opens the folder, which is made if it isn't there, and locks it. If records are synced, the entry of the folder in the one
-    /// above it is on the disk then, and those of all folders that were made.
+    /// Opens the folder of this path, which is made if it isn't there, and locks it. If records are synced, the entry of the
+    /// folder in the one above it is on the disk then, and those of all folders that were made.
+    ///
+    /// # Errors
+    ///
+    /// `Record` if another farm has the folder, `System` if a call of the system failed, and `Memory`.
     pub fn open(
         files: &'a F,
         alloc: Global,
-        settings: &RecordSettings,
-    ) -> Result<RecordFolder<'a, F>, LiveFailure> {
-        let path = settings.path.as_str();
-        if let Err(error) = make_folder(files, alloc, path, settings.syncs) {
-            return Err(LiveFailure::of_file(alloc, path, error));
+        path: &str,
+        syncs: bool,
+    ) -> Result<RecordFolder<'a, F>, FileFailure> {
+        if let Err(error) = make_folder(files, alloc, path, syncs) {
+            return Err(FileFailure::of_file(alloc, path, error));
         }
         let lock = format!(in alloc; "{path}/lock")?;
         let file = open_lock(files, alloc, lock.as_str())?;
@@ -48,7 +51,7 @@ impl<'a, F: Files<File = File>> RecordFolder<'a, F> {
             files,
             alloc,
             path: String::from_str(alloc, path)?,
-            syncs: settings.syncs,
+            syncs,
             lock: file,
         })
     }
@@ -104,22 +107,22 @@ fn open_lock<F: Files<File = File>>(
     files: &F,
     alloc: Global,
     path: &str,
-) -> Result<File, LiveFailure> {
+) -> Result<File, FileFailure> {
     let opened = OpenOptions::new()
         .append(true)
         .create(true)
         .open(files, path);
     let file = match opened {
         Ok(file) => file,
-        Err(error) => return Err(LiveFailure::of_file(alloc, path, error)),
+        Err(error) => return Err(FileFailure::of_file(alloc, path, error)),
     };
     match file.try_lock() {
         Ok(()) => Ok(file),
-        Err(TryLockError::WouldBlock) => Err(LiveFailure::of_record(
+        Err(TryLockError::WouldBlock) => Err(FileFailure::of_record(
             alloc,
             path,
             "another farm records there",
         )),
-        Err(TryLockError::Error(error)) => Err(LiveFailure::of_file(alloc, path, error)),
+        Err(TryLockError::Error(error)) => Err(FileFailure::of_file(alloc, path, error)),
     }
 }

@@ -1,5 +1,5 @@
 use Rattle.std.proofs.Common.{◌≡◌, map, string_bytes}
-use Rattle.farm_program.proofs.farm.parted.Given as goal
+use Rattle.farm_program.proofs.farm.divide_ends.Given as goal
 
 -- what the users so far leave
 abbrev pub invariant-loop-end : goal.invariant-loop-end

@@ -1,5 +1,5 @@
 use Rattle.std.proofs.Common.{◌≡◌, take}
-use Rattle.lab_film.proofs.frame.words_of.Given as goal
+use Rattle.lab_film.proofs.frame.switch_words.Given as goal
 
 abbrev pub invariant-loop-output : goal.invariant-loop-output
 invariant-loop-output l =

@@ -60,22 +60,22 @@ impl<R: Wait, N: Notices> RecordProgress<'_, R, N> {
 }
 
 /// A reader that reports how much was read.
-pub(crate) struct ToldReader<'a, R: Wait, N: Notices, I: Read + Drop> {
+pub(crate) struct ReportingReader<'a, R: Wait, N: Notices, I: Read + Drop> {
     pub(crate) input: I,
     pub(crate) progress: RecordProgress<'a, R, N>,
 }
 
 // Dropped by hand, since a derived `Drop` makes callers prove the drop of each field.
-impl<R: Wait, N: Notices, I: Read + Drop> Drop for ToldReader<'_, R, N, I> {
+impl<R: Wait, N: Notices, I: Read + Drop> Drop for ReportingReader<'_, R, N, I> {
     fn drop(self) {
-        let ToldReader {
+        let ReportingReader {
             input: _,
             progress: _,
         } = self;
     }
 }
 
-impl<R: Wait, N: Notices, I: Read + Drop> Read for ToldReader<'_, R, N, I> {
+impl<R: Wait, N: Notices, I: Read + Drop> Read for ReportingReader<'_, R, N, I> {
     ghost remaining = { λ reader. I.remaining reader.input };
 
     fn read(&mut self, buf: &mut [u8]) -> io::Result<usize> {

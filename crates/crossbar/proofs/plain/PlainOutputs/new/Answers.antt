@@ -1,7 +1,7 @@
 use Rattle.std.proofs.Common.{◌∙◌, ap}
 use Rattle.crossbar.specs.Row.{Row, switch_of}
 use Rattle.crossbar.proofs.PlainRows.{unused_is_plain, unused_is_cleared}
-use Rattle.crossbar.proofs.plain.PlainOutputs.unused.Goals as goal
+use Rattle.crossbar.proofs.plain.PlainOutputs.new.Goals as goal
 
 pub of-requires : goal.of-requires
 of-requires c = unused_is_plain c.args.ranges c.requires

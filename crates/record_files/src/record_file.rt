@@ -116,7 +116,7 @@ impl<'a, F: Files<File = File>> RecordPlace<'a, F> {
 
 impl<'a, F: Files<File = File>> RecordFile<'a, F> {
     /// A record that is there, with those before it. `whole` says how many bytes of its file are whole.
-    pub(crate) fn found(
+    pub(crate) fn with_file(
         place: RecordPlace<'a, F>,
         number: u64,
         file: File,

@@ -1,0 +1,19 @@
+//! Records in files: the folder of a farm's records, what is done again when a farm goes on, and what is written to.
+#![tactic(auto)]
+
+mod failure;
+mod finding;
+mod names;
+mod notices;
+mod opening;
+mod progress;
+mod record_file;
+mod record_folder;
+mod redoing;
+
+pub use failure::FileFailure;
+pub use names::names_of;
+pub use notices::Notices;
+pub use opening::no_records;
+pub use record_file::{FileRecords, RecordFile};
+pub use record_folder::RecordFolder;
