@@ -8,7 +8,7 @@ PRINTED = "COMMANDS.md"
 GLOSSARY = "GLOSSARY.md"
 # The words that these pages don't have, each with what to write instead. `stands for` a name or a number is plain.
 PLAIN_WORDS = {
-    r"stands?(?! for\b)|stood|standing": "is, is in, comes, stays, or depends on",
+    r"(?:stands?|stood)(?! for\b)|standing": "is, is in, comes, stays, or depends on",
     r"behind": "after",
     r"told": "said, shown, answered, or given",
     r"so many": "a number of, or that many",
@@ -23,9 +23,8 @@ PLAIN_WORDS = {
 }
 
 
-# The comments in plain words: what is public of the sources, and all of the definitions. Each kind of file, and how a line of its
-# comments begins.
-PLAIN_COMMENTS = (("crates/*/src/**/*.rt", r"\s*//[/!]"), ("crates/*/specs/**/*.antt", r"\s*--"))
+# The comments in plain words: each kind of file, and how a line of its comments begins.
+PLAIN_COMMENTS = (("crates/*/src/**/*.rt", r"\s*//"), ("crates/*/specs/**/*.antt", r"\s*--"), ("crates/*/proofs/**/*.antt", r"\s*--"))
 
 
 def lines_of(page):

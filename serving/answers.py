@@ -39,7 +39,7 @@ MEANINGS = (
 # The words by which an answer refuses its line, and those of verbs that have others.
 REFUSALS = ("nosuch", "journalfull")
 REFUSING = {"config": ("badport", "badcommand", "journalfull"), "boot": (*REFUSALS, "refused"), "restart": ("operator",)}
-# The verbs by which lines that help are answered.
+# The verbs by which shorthand lines are answered.
 ANSWERING = {"join": "config", "send": "write", "text": "collect"}
 
 

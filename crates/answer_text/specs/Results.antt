@@ -8,16 +8,16 @@ use Rattle.bootstrap.specs.Messages.{boot_fault_number, length_fault}
 use Rattle.domain_core.specs.declared.event.Refusal.{Refusal}
 use Rattle.domain_core.specs.declared.event.Reply.{Reply}
 use Rattle.domain_core.specs.declared.event.Reply.TheVariants as reply
-use Rattle.domain_core.specs.declared.event.Told.{Told}
+use Rattle.domain_core.specs.declared.event.AnsweredCommand.{AnsweredCommand}
 use Rattle.virtual_switch.specs.declared.reply.ConfigReply.TheVariants as config
 use Rattle.answer_text.specs.Digits.{byte_text}
 use Rattle.answer_text.specs.Replies.{reply_text, refusal_text}
 use Rattle.script_lines.specs.declared.command.Command.{Command}
 use Rattle.script_lines.specs.declared.command.Command.TheVariants as command
-use Rattle.script_lines.specs.Verbs.{name_of, verb_of, place_asked}
+use Rattle.script_lines.specs.Verbs.{name_of, verb_of, target_asked}
 
 -- the replies, in order
-abbrev pub replies_told : List Told → List Reply
+abbrev pub replies_told : List AnsweredCommand → List Reply
 replies_told told = map (λ t. t.reply) told
 
 -- a text after a blank
@@ -68,7 +68,7 @@ byte_read r = None
 abbrev pub bytes_read : List Reply → List ℕ
 bytes_read replies = filter_map byte_read replies
 
-abbrev pub bytes_told : List Told → List ℕ
+abbrev pub bytes_told : List AnsweredCommand → List ℕ
 bytes_told told = bytes_read (replies_told told)
 
 -- a word of four bytes, which come with the least significant first; or a hyphen
@@ -112,5 +112,5 @@ outcome_text command replies (Err refusal) = behind_blank (unwrap_or (refusal_te
 abbrev pub line_text : {A : Type 0} → List ℕ → Command → List Reply → Result A Refusal → List ℕ
 line_text name command replies result =
     name ++ behind_blank (name_of (verb_of command))
-    ++ option_map_or (λ place. behind_blank (decimal place)) (place_asked command) []
+    ++ option_map_or (λ place. behind_blank (decimal place)) (target_asked command) []
     ++ outcome_text command replies result ++ codes "\n"

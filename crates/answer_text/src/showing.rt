@@ -11,7 +11,7 @@ ghost use Rattle.bootstrap.specs.Messages.{boot_fault_number};
 use crate::digits::write_byte;
 use crate::replies::{write_refusal, write_reply};
 use bootstrap::BootFault;
-use domain_core::{NoMemory, Refusal, Reply, Told};
+use domain_core::{AnsweredCommand, NoMemory, Refusal, Reply};
 use script_lines::Command;
 use virtual_switch::ConfigReply;
 
@@ -23,7 +23,7 @@ fn is_shown(reply: Reply) -> bool
 }
 
 // Whether there is one that is shown.
-fn is_any_shown(told: &[Told]) -> bool
+fn is_any_shown(told: &[AnsweredCommand]) -> bool
     ensures { result ≡ list_any is_shown (replies_told told.now) }
 {
     let mut is_any = false;
@@ -33,7 +33,7 @@ fn is_any_shown(told: &[Told]) -> bool
     is_any
 }
 
-fn write_shown(text: &mut String, told: &[Told]) -> Result<(), NoMemory>
+fn write_shown(text: &mut String, told: &[AnsweredCommand]) -> Result<(), NoMemory>
     ensures { OnOk result (string_bytes text.new ≡ string_bytes text.old ++ flat_map shown_text (replies_told told.now)) }
 {
     for it in told {
@@ -46,7 +46,7 @@ fn write_shown(text: &mut String, told: &[Told]) -> Result<(), NoMemory>
 }
 
 // The replies of the switch other than Nothing, or a hyphen.
-fn write_configured(text: &mut String, told: &[Told]) -> Result<(), NoMemory>
+fn write_configured(text: &mut String, told: &[AnsweredCommand]) -> Result<(), NoMemory>
     ensures { OnOk result (string_bytes text.new ≡ string_bytes text.old ++ configured_text (replies_told told.now)) }
 {
     if is_any_shown(told) {
@@ -57,7 +57,7 @@ fn write_configured(text: &mut String, told: &[Told]) -> Result<(), NoMemory>
 }
 
 // How many bytes a host took.
-fn count_taken(told: &[Told]) -> usize
+fn count_taken(told: &[AnsweredCommand]) -> usize
     ensures { result ≡ length (filter is_written (replies_told told.now)) }
 {
     let mut count = 0;
@@ -75,7 +75,7 @@ fn is_written(reply: Reply) -> bool
     matches!(reply, Reply::Written)
 }
 
-fn write_taken(text: &mut String, told: &[Told]) -> Result<(), NoMemory>
+fn write_taken(text: &mut String, told: &[AnsweredCommand]) -> Result<(), NoMemory>
     ensures { OnOk result (string_bytes text.new ≡ string_bytes text.old ++ taken_text (replies_told told.now)) }
 {
     let count = count_taken(told);
@@ -90,7 +90,7 @@ fn write_boot_fault(text: &mut String, fault: BootFault) -> Result<(), NoMemory>
 }
 
 // How many bytes of a boot message a host took, or why code is none.
-fn write_booted(text: &mut String, code: &[u8], told: &[Told]) -> Result<(), NoMemory>
+fn write_booted(text: &mut String, code: &[u8], told: &[AnsweredCommand]) -> Result<(), NoMemory>
     ensures { OnOk result (string_bytes text.new ≡ string_bytes text.old ++ booted_text code.now (replies_told told.now)) }
 {
     match BootFault::of_length(code.len()) {
@@ -110,7 +110,7 @@ fn byte_read(reply: Reply) -> Option<u8>
 }
 
 // The first byte that came, and the rest of the list.
-fn first_byte(told: &[Told]) -> Option<(u8, &[Told])>
+fn first_byte(told: &[AnsweredCommand]) -> Option<(u8, &[AnsweredCommand])>
     ensures { MatchOption result (bytes_told told.now ≡ []) (λ found. bytes_told told.now ≡ found.0 ∷ bytes_told found.1.now) }
 {
     let mut rest = told;
@@ -124,7 +124,7 @@ fn first_byte(told: &[Told]) -> Option<(u8, &[Told])>
 }
 
 // The first four bytes that came.
-fn first_word(told: &[Told]) -> Option<[u8; 4]>
+fn first_word(told: &[AnsweredCommand]) -> Option<[u8; 4]>
     ensures { MatchOption result (word_text (bytes_told told.now) ≡ codes " -") (λ bytes. word_text (bytes_told told.now) ≡ word_text bytes) }
 {
     let (a, rest) = first_byte(told)?;
@@ -135,7 +135,7 @@ fn first_word(told: &[Told]) -> Option<[u8; 4]>
 }
 
 // A word of four bytes, or a hyphen.
-fn write_word(text: &mut String, told: &[Told]) -> Result<(), NoMemory>
+fn write_word(text: &mut String, told: &[AnsweredCommand]) -> Result<(), NoMemory>
     ensures { OnOk result (string_bytes text.new ≡ string_bytes text.old ++ word_text (bytes_told told.now)) }
 {
     match first_word(told) {
@@ -161,7 +161,7 @@ fn write_read(text: &mut String, reply: Reply) -> Result<(), NoMemory>
     }
 }
 
-fn write_all_bytes(text: &mut String, told: &[Told]) -> Result<(), NoMemory>
+fn write_all_bytes(text: &mut String, told: &[AnsweredCommand]) -> Result<(), NoMemory>
     ensures { OnOk result (string_bytes text.new ≡ string_bytes text.old ++ flat_map byte_text (bytes_told told.now)) }
 {
     for it in told {
@@ -171,7 +171,7 @@ fn write_all_bytes(text: &mut String, told: &[Told]) -> Result<(), NoMemory>
 }
 
 // All bytes that came, or a hyphen.
-fn write_bytes(text: &mut String, told: &[Told]) -> Result<(), NoMemory>
+fn write_bytes(text: &mut String, told: &[AnsweredCommand]) -> Result<(), NoMemory>
     ensures { OnOk result (string_bytes text.new ≡ string_bytes text.old ++ bytes_text (bytes_told told.now)) }
 {
     if first_byte(told).is_some() {
@@ -200,7 +200,7 @@ fn write_behind_blank(text: &mut String, reply: Reply) -> Result<(), NoMemory>
     write_reply(text, reply)
 }
 
-fn write_resets(text: &mut String, told: &[Told]) -> Result<(), NoMemory>
+fn write_resets(text: &mut String, told: &[AnsweredCommand]) -> Result<(), NoMemory>
     ensures { OnOk result (string_bytes text.new ≡ string_bytes text.old ++ flat_map reset_text (replies_told told.now)) }
 {
     for it in told {
@@ -209,7 +209,7 @@ fn write_resets(text: &mut String, told: &[Told]) -> Result<(), NoMemory>
     Ok(())
 }
 
-fn write_looks(text: &mut String, told: &[Told]) -> Result<(), NoMemory>
+fn write_looks(text: &mut String, told: &[AnsweredCommand]) -> Result<(), NoMemory>
     ensures { OnOk result (string_bytes text.new ≡ string_bytes text.old ++ flat_map look_text (replies_told told.now)) }
 {
     for it in told {
@@ -219,7 +219,11 @@ fn write_looks(text: &mut String, told: &[Told]) -> Result<(), NoMemory>
 }
 
 // What is shown of the replies to what a line asked.
-fn write_result(text: &mut String, command: &Command, told: &[Told]) -> Result<(), NoMemory>
+fn write_result(
+    text: &mut String,
+    command: &Command,
+    told: &[AnsweredCommand],
+) -> Result<(), NoMemory>
     ensures { OnOk result (string_bytes text.new ≡ string_bytes text.old ++ result_text command.now (replies_told told.now)) }
 {
     match command {
@@ -237,7 +241,7 @@ fn write_result(text: &mut String, command: &Command, told: &[Told]) -> Result<(
 fn write_outcome(
     text: &mut String,
     command: &Command,
-    told: &[Told],
+    told: &[AnsweredCommand],
     ended: Result<(), Refusal>,
 ) -> Result<(), NoMemory>
     ensures text { OnOk result (string_bytes text.new ≡ string_bytes text.old ++ outcome_text command.now (replies_told told.now) ended) }
@@ -261,7 +265,7 @@ pub fn write_line(
     text: &mut String,
     name: &str,
     command: &Command,
-    told: &[Told],
+    told: &[AnsweredCommand],
     ended: Result<(), Refusal>,
 ) -> Result<(), NoMemory>
     ensures text { OnOk result (string_bytes text.new ≡ string_bytes text.old ++ line_text name.now command.now (replies_told told.now) ended) }
@@ -269,8 +273,8 @@ pub fn write_line(
 {
     let verb = command.verb().name();
     write!(text, "{name} {verb}")?;
-    if let Some(place) = command.place() {
-        write!(text, " {place}")?;
+    if let Some(target) = command.target() {
+        write!(text, " {target}")?;
     }
     write_outcome(text, command, told, ended)?;
     text.push_str("\n")

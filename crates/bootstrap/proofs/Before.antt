@@ -1,4 +1,4 @@
--- What stood before the last of a processor's steps, for the clause `burst` of `run`.
+-- What was before the last of a processor's steps, for the clause `burst` of `run`.
 use Rattle.std.proofs.Common.{◌≡◌, ℕ, zero, suc, true, false, List, Option, Some, None, refl, ◌∙◌, sym}
 use Rattle.node_memory.specs.Effect.{Gave, Halted}
 use Rattle.link_channels.specs.declared.link.FourLinks.{FourLinks}

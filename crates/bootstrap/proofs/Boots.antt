@@ -26,7 +26,7 @@ use Rattle.bootstrap.proofs.Delivering.{Delivers, DeliversAll, none-delivered, o
 use Rattle.bootstrap.proofs.Delivering.{clear-links, clear-memory, control-delivered, code-delivered, whole-delivered}
 use Rattle.bootstrap.proofs.Stored.{stored_from, holds-code}
 
--- a node that takes so many bytes of code, and one that runs code which ends there
+-- a node that takes that many bytes of code, and one that runs code which ends there
 abbrev loading : LinkNumber → List ℕ → FourLinks → ℕ → ℕ → Node
 loading link m ls left address = clear_node link m ls (Takes link (Load left address))
 

@@ -53,7 +53,7 @@ one-delivered link byte bytes x y z first rest = record {
 
 -- ---- a link that holds no byte and has no acknowledge to send
 
--- four links of which one has this in its buffer, and this acknowledge to send
+-- four links, and one has this in its buffer, and this acknowledge to send
 abbrev pub with_input : LinkNumber → Option ℕ → Bool → FourLinks → FourLinks
 with_input link buffer acknowledge ls =
     let l = at link ls in
@@ -67,7 +67,7 @@ with_input link buffer acknowledge ls =
     })
     ls
 
--- a node with such links, of which one has neither
+-- a node with such links, and one has neither
 abbrev pub clear_node : LinkNumber → List ℕ → FourLinks → NodeState → Node
 clear_node link m ls state = record { memory = m; links = with_input link None false ls; state = state }
 

@@ -153,7 +153,7 @@ steps-led (suc k) s t ls ks m n same =
       last = more.1 ∙ ap (λ (i : ℕ). last_answer i (running s ls m)) (add-one k);
     }
 
--- a processor's steps of which the last met a fault
+-- a processor's steps, the last of them met a fault
 pub steps-broke : (k : ℕ) (fault : Fault) (s t : Cpu) (ls ks : FourLinks) (m n : List ℕ)
     → 0 < k → nth_step k s ls m ≡ Some (Halted fault ks n)
     → IsAfter (running s ls m) k (left_by (Some (code.Fault fault)) t ks n)
@@ -170,13 +170,13 @@ steps-broke (suc k) fault s t ls ks m n some same =
       more.1 ∙ ap (λ (i : ℕ). last_answer i (running s ls m)) (add-one k),
     )
 
--- a processor's steps of which the last found nothing to do
+-- a processor's steps, the last of them found nothing to do
 pub record Rested (k : ℕ) (x y : Node) : Type 0 where
   pub after : IsAfter x k y
   pub last : last_of_ran k ≡ last_answer k x
   pub quiet : is_quiet y ≡ true
 
--- steps of which the last is idle leave a node that is quiet, after all but that one
+-- steps whose last is idle leave a node that is quiet, after all but that one
 pub steps-rested : IdleWhereItRests
     → ServiceLeavesTheRest → (k : ℕ) (s t : Cpu) (ls ks : FourLinks) (m n : List ℕ)
     → nth_step (suc k) s ls m ≡ Some (Gave (false, t) ks n)

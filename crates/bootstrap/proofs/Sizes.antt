@@ -50,7 +50,7 @@ abbrev pub memory_of : {A S : Type 0} → Effect A S → List ℕ
 memory_of (Gave x s m) = m
 memory_of (Halted fault s m) = m
 
--- memory has so many bytes afterwards
+-- memory has that many bytes afterwards
 pub record Sized {A S : Type 0} (k : ℕ) (r : Effect A S) : Type 0 where
   pub size : length (memory_of r) ≡ k
 

@@ -20,7 +20,7 @@ pub use crate::burst::Burst;
 pub use crate::laws::{
     fault_halts, quiet_step_changes_nothing, recorded_step_ran, steps_add_up, steps_keep_the_size,
 };
-pub use crate::link_numbers::{link_of, number_of};
+pub use crate::link_numbers::{link_number_of, link_of};
 pub use crate::message_laws::{boot_loads_the_code, poke_stores_the_word};
 pub use crate::messages::{
     BootFault, LEAST_BOOTED, MOST_BOOTED, boot_message, peek_message, poke_message, word_of,

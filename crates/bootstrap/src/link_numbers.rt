@@ -19,7 +19,7 @@ pub fn link_of(number: u8) -> LinkNumber
 }
 
 /// The number of a link, 0 to 3.
-pub fn number_of(link: LinkNumber) -> u8
+pub fn link_number_of(link: LinkNumber) -> u8
     ensures answer { result ≡ link_number link }
 {
     match link {

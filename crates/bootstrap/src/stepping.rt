@@ -32,14 +32,14 @@ impl Node {
                 }
                 stepped
             }
-            _ => self.step_aside(),
+            _ => self.step_without_registers(),
         }
     }
 
     // One Step of a node that has no registers: it boots, or has halted.
     #[inline(never)]
     #[tactic(auto, unfolding(crate::specs::Step::node_step))]
-    fn step_aside(&mut self) -> Stepped
+    fn step_without_registers(&mut self) -> Stepped
         requires { registers_of self.old.state ≡ None }
         ensures answer { (self.new, result) ≡ node_step self.old }
     {
@@ -81,14 +81,14 @@ impl Node {
             NodeState::Runs(cpu) => {
                 !cpu.running && cpu.queue.front == NOT_PROCESS && !self.links.has_work()
             }
-            _ => self.is_quiet_aside(),
+            _ => self.is_quiet_without_registers(),
         }
     }
 
     // Whether a Step of a node that has no registers would not be recorded.
     #[inline(never)]
     #[tactic(auto, unfolding(crate::specs::Step::node_step))]
-    fn is_quiet_aside(&self) -> bool
+    fn is_quiet_without_registers(&self) -> bool
         requires { registers_of self.now.state ≡ None }
         ensures answer { result ≡ is_quiet self.now }
     {

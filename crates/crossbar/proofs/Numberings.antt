@@ -32,7 +32,7 @@ some_still : (output : Option ℕ) → is_some (option_map suc output) ≡ is_so
 some_still None = refl
 some_still (Some w) = refl
 
--- the number of the port that stands at v is v, if no port stands twice
+-- the number of the port that is at v is v, if no port occurs twice
 pub number_among-port : (ports : List ℕ) (v port : ℕ) → IsOneToOne ports → slice_get ports v ≡ Some port
     → number_among ports port ≡ Some v
 number_among-port [] v port one is = absurd (none-some port is)
@@ -56,7 +56,7 @@ number_among-below (first ∷ ports) port v is =
           omega (arith, next.2)
     ]
 
--- a port that stands among the ports has a number
+-- a port that is among the ports has a number
 pub number_among-some : (ports : List ℕ) (port k : ℕ) → slice_get ports k ≡ Some port
     → is_some (number_among ports port) ≡ true
 number_among-some [] port k is = absurd (none-some port is)
@@ -68,7 +68,7 @@ number_among-some (first ∷ ports) port (suc k) is =
       | inr other ↦ rw other (some_still (number_among ports port) ∙ number_among-some ports port k is)
     ]
 
--- the port whose number is v stands at v
+-- the port whose number is v is at v
 pub number_among-get : (ports : List ℕ) (port v : ℕ) → number_among ports port ≡ Some v → slice_get ports v ≡ Some port
 number_among-get [] port v is = absurd (none-some v is)
 number_among-get (first ∷ ports) port v is =
@@ -235,7 +235,7 @@ port_below ports port given =
     subst (λ (p : ℕ). p < 32) (get_or-append_seam ports port [] port)
     (given.below (length ports) port (omega (arith, length-append ports (port ∷ []))))
 
--- the first ports of the table once another is stored behind them: those from before and the other
+-- the first ports of the table once another is stored after them: those from before and the other
 pub pushed : (ports : List ℕ) (numbers : List (Option ℕ)) (count port : ℕ)
     → IsNumberTable ports numbers count → IsNumbering (take count ports ++ port ∷ [])
     → take (count + 1) (slice_set ports count port) ≡ take count ports ++ port ∷ []
@@ -271,7 +271,7 @@ table_pushed ports numbers count port given holds = record {
       ];
 }
 
--- ports that are equal to others are a numbering with more behind them, if the others are
+-- ports that are equal to others are a numbering with more after them, if the others are
 pub as_seen : (ports seen more : List ℕ) → ports ≡ seen → IsNumbering (seen ++ more) → IsNumbering (ports ++ more)
 as_seen ports seen more is given = subst (λ (ps : List ℕ). IsNumbering (ps ++ more)) (sym is) given
 

@@ -1,4 +1,4 @@
--- What callers are told, and which of a history is whose, for the
+-- What callers are answered, and which of a history is whose, for the
 -- laws `fitting_stays`, `histories_grow` and `own_commands_add_up`.
 use Rattle.std.proofs.Common.{◌≡◌, ℕ, zero, suc, List, [], ◌∷◌, ◌++◌, replicate, Bool, true, false, ◌==◌, ◌&&◌, refl}
 use Rattle.std.proofs.Common.{ap, ◌∙◌, sym}
@@ -28,7 +28,7 @@ next_is_an_answer part history s call h = record {
       ∙ ap (λ (x : State). answers part (opening part) (calls_of history) ++ answers part x (call ∷ [])) h.state;
 }
 
--- a user's commands of two histories stand one after the other
+-- a user's commands of two histories come one after the other
 pub own_commands_add_up : OwnCommandsAddUp
 own_commands_add_up user history later = filter-append (is_own user) history later
 

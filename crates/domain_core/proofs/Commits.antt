@@ -1,4 +1,4 @@
--- A history that is so many Steps of one node longer, for `Domain::commit_in_place` and `Moment::burst`.
+-- A history that is that many Steps of one node longer, for `Domain::commit_in_place` and `Moment::burst`.
 use Rattle.std.proofs.Common.{◌≡◌, ◌≢◌, ℕ, zero, suc, ◌+◌, ◌^◌, ◌<◌, ◌≤◌, List, [], ◌∷◌, ◌++◌, length, Bool, true}
 use Rattle.std.proofs.Common.{Option, Some, Ok, refl, sym, ap, ◌∙◌, arith, subst, append_assoc, add-zero}
 use Rattle.std.proofs.Common.{if◌then◌else◌, set, replicate}
@@ -37,7 +37,7 @@ one_answer_more : (k : ℕ) (n : Node) → last_answer (suc k) n ≡ Some (node_
 unfolding last_answer
 one_answer_more k n = refl
 
--- each of so many Steps would be recorded
+-- each of that many Steps would be recorded
 abbrev AreRecorded : ℕ → Node → Type 0
 AreRecorded k start = (j : ℕ) → j < k → is_step_recorded (after_steps j start) ≡ true
 
@@ -68,7 +68,7 @@ with_nodes s nodes recorded =
       recorded = recorded;
     }
 
--- the state after so many Steps of one node
+-- the state after that many Steps of one node
 abbrev pub stepped_on : State → ℕ → Node → ℕ → State
 stepped_on s i start k = with_nodes s (set s.machine.devices.nodes i (after_steps k start)) (s.recorded + k)
 
@@ -120,7 +120,7 @@ fewer k start recorded j lt = recorded j (omega arith)
 below_limit : (recorded k limit : ℕ) → recorded + suc k ≤ limit → recorded + k ≢ limit
 below_limit recorded k limit room e = absurd (omega (arith, e, room))
 
--- a history with k Steps of a node behind it is one, if each would be recorded and there is room, and leads on
+-- a history with k Steps of a node after it is one, if each would be recorded and there is room, and leads on
 pub history_steps : RecordedStepRan → (part : PartData) (calls : List AnsweredCall) (s : State) (i k : ℕ) (start : Node)
     → is_there part (step_of i) ≡ true → slice_get s.machine.devices.nodes i ≡ Some start → IsHistory part calls s
     → s.recorded + k ≤ part.limit

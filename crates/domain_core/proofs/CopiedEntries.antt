@@ -15,14 +15,14 @@ use Rattle.domain_core.specs.Journal.{AnsweredCall, steps, expanded}
 use Rattle.domain_core.specs.Marks.{events_behind, events_from, StandsIn, Copies}
 use Rattle.domain_core.proofs.Runs.{expanded-append, steps-add, length-steps}
 
--- behind a mark at the front stands all that the journal stands for
+-- after a mark at the front is all that the journal stands for
 pub all_behind : (journal : List Entry) → events_behind 0 0 journal ≡ expanded journal
 all_behind [] = refl
 all_behind (One by event reply ∷ later) = refl
 all_behind (Run by node count last ∷ later) =
     ap (λ (xs : List AnsweredCall). xs ++ expanded later) (append-nil (steps by node count last))
 
--- behind a mark at the end stands nothing
+-- after a mark at the end is nothing
 pub none_behind : (i events : ℕ) (journal : List Entry) → length journal ≤ i → events_behind i events journal ≡ []
 none_behind i events [] past = refl
 none_behind zero events (entry ∷ later) past = absurd (omega (arith, past))
@@ -39,14 +39,14 @@ behind_entry (suc i) events (e ∷ later) entry at = behind_entry i events later
 plus_one : (i : ℕ) → suc i ≡ i + 1
 plus_one i = omega arith
 
--- the entry at a place, and those behind it
+-- the entry at a place, and those after it
 pub entry_more : (i events : ℕ) (journal : List Entry) (entry : Entry) → slice_get journal i ≡ Some entry
     → events_behind i events journal ≡ drop events (expanded (entry ∷ [])) ++ events_behind (i + 1) 0 journal
 entry_more i events journal entry at =
     behind_entry i events journal entry at
     ∙ ap (λ (k : ℕ). drop events (expanded (entry ∷ [])) ++ events_behind k 0 journal) (plus_one i)
 
--- behind all events of an entry stand those behind it
+-- after all events of an entry are those after it
 pub entry_done : (i : ℕ) (journal : List Entry) (entry : Entry) (count : ℕ)
     → slice_get journal i ≡ Some entry → count ≡ length (expanded (entry ∷ []))
     → events_behind i count journal ≡ events_behind (i + 1) 0 journal
@@ -61,7 +61,7 @@ entry_at i [] entry at = absurd (none-some entry at)
 entry_at zero (e ∷ later) entry at = ap (λ (x : Entry). x ∷ []) (same_Some e entry at)
 entry_at (suc i) (e ∷ later) entry at = entry_at i later entry at
 
--- a mark behind an entry of the journal stands there
+-- a mark after an entry of the journal is there
 pub stands_behind : (i : ℕ) (journal : List Entry) (entry : Entry) (count : ℕ)
     → i < length journal → slice_get journal i ≡ Some entry → count ≡ length (expanded (entry ∷ []))
     → StandsIn journal (record { entries = i; events = count })

@@ -13,7 +13,7 @@ use Rattle.domain_core.specs.declared.device.Device.TheVariants.{Host, Link}
 use Rattle.domain_core.specs.Devices.{DeviceStates, HasDevice, or_else, is_wired_to, host_at_port, link_at_port}
 use Rattle.domain_core.specs.Devices.{link_of_four, device_at}
 
--- the devices of the first so many ports stand in a table
+-- the devices of the first ports are in a table
 abbrev pub AreJoinedBelow : PartData → ℕ → List (Option Device) → Type 0
 AreJoinedBelow part below table = (port : ℕ) → port < below → get_or table port None ≡ device_at part port
 

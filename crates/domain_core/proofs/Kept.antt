@@ -37,7 +37,7 @@ all_still seen more (e ∷ small) kept =
     ∙ ap (λ (rest : List Entry). entry_of seen e ∷ rest)
     (all_still seen more small (All-tail (IsStored seen) e small kept))
 
--- a look that is stored behind small entries stands for an entry with what it saw, and they for what they stood for
+-- a look that is stored after small entries stands for an entry with what it saw, and they for what they stood for
 pub look_pushed : (seen : List Seen) (small : List SmallEntry) (by : By) (asked : Event) (other_seen : Seen)
     → All (IsStored seen) small
     → map (entry_of (seen ++ other_seen ∷ [])) (small ++ Look by asked (length seen) ∷ [])
@@ -49,7 +49,7 @@ look_pushed seen small by asked other_seen kept =
     ∙ ap (λ (last : Seen). map (entry_of seen) small ++ entry.One by asked (reply.Look last) ∷ [])
     (get_or_push seen other_seen no_look (length seen) refl)
 
--- a run that stands last
+-- a run that is last
 at_last : (seen : List Seen) (n : ℕ) (small : List SmallEntry) (other_entry : SmallEntry) → n ≡ length small → 0 < n
     → other_entry ≡ slice_index_or small (n - 1) other_entry
     → entry_of seen other_entry ≡ slice_index_or (map (entry_of seen) small) (n - 1) (entry_of seen other_entry)
@@ -57,7 +57,7 @@ at_last seen n small other_entry all some is =
     ap (entry_of seen) is
     ∙ sym (get_or-map (entry_of seen) small (n - 1) other_entry (entry_of seen other_entry) (omega (arith, all, some)))
 
--- a run that stands last among small entries has room for so many Steps more, if the journal has
+-- a run that is last among small entries has room for that many Steps more, if the journal has
 pub last_run_has_room : (seen : List Seen) (n : ℕ) (small : List SmallEntry) (other_entry : SmallEntry) (by : By)
     (node before count : ℕ)
     → n ≡ length small → 0 < n
@@ -69,7 +69,7 @@ last_run_has_room seen n small other_entry by node before count all some is few 
     (all ∙ sym (length-map small (entry_of seen))) some (at_last seen n small other_entry all some is) few
     (ap (entry_of seen) run)
 
--- setting a longer run in the place of the last small entry puts so many Steps behind what the entries stand for
+-- setting a longer run in the place of the last small entry puts that many Steps after what the entries stand for
 pub last_run_goes_on : (seen : List Seen) (n : ℕ) (small : List SmallEntry)
     (other_entry third_entry : SmallEntry) (by : By)
     (node before count : ℕ) (last : Stepped)

@@ -3,7 +3,7 @@ use Rattle.std.proofs.Common.{◌≡◌, ℕ, zero, suc, ◌+◌, List, [], ◌�
 use Rattle.std.proofs.Common.{ap, sym, ◌∙◌, add-one}
 use Rattle.std.proofs.lemmas.List.{replicate_more}
 
--- the first so many members changed
+-- the first members changed
 abbrev pub changed_to : {A : Type 0} → (A → A) → ℕ → List A → List A
 changed_to f zero xs = xs
 changed_to f (suc i) [] = []
@@ -38,6 +38,6 @@ pub map_const : {A B : Type 0} (y : B) (xs : List A) → map (λ (x : A). y) xs 
 map_const y [] = refl
 map_const y (x ∷ xs) = ap (λ (rest : List _). y ∷ rest) (map_const y xs)
 
--- copies of a value with one more behind them are so many and one
+-- copies of a value with one more after them are that many and one
 pub one_more_of : {A : Type 0} (n : ℕ) (y : A) → replicate n y ++ y ∷ [] ≡ replicate (n + 1) y
 one_more_of n y = replicate_more n y

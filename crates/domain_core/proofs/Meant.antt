@@ -77,7 +77,7 @@ counted : (recorded : Bool) (n m : ℕ) → recorded ≡ true → m ≡ n + 1 �
 counted recorded n m is more = rw (is, more) refl
 
 -- what the farm that holds the domain alone does with an event that is recorded
-record Told (d : DomainValue) (call : Call) (m : MachineValue) (reply : Reply) (entries : List Entry)
+record AnsweredCommand (d : DomainValue) (call : Call) (m : MachineValue) (reply : Reply) (entries : List Entry)
     (reserved : ℕ) : Type 0 where
   answer : (next d.machine.part (state_of d) call).1 ≡ Ok reply
   state : (next d.machine.part (state_of d) call).0 ≡ state_of
@@ -91,7 +91,7 @@ told_recorded : (d : DomainValue) (call : Call) (other_machine : MachineValue) (
     → reply ≡ (acted d.machine.part (machine_of d.machine) call.event).1
     → is_recorded d.machine.part (machine_of d.machine) call.event ≡ true
     → expanded entries ≡ expanded d.journal ++ record { call = call; reply = reply } ∷ []
-    → Told d call other_machine reply entries reserved
+    → AnsweredCommand d call other_machine reply entries reserved
 told_recorded d call other_machine reply entries reserved there below machine replies recorded gains =
     let s : State = state_of d in
     let P : PartData = d.machine.part in
@@ -128,7 +128,7 @@ meant_recorded d call other_machine reply entries reserved meant there below mac
     let s : State = state_of d in
     let P : PartData = d.machine.part in
     let one : AnsweredCall = record { call = call; reply = reply } in
-    let told : Told d call other_machine reply entries reserved =
+    let told : AnsweredCommand d call other_machine reply entries reserved =
     told_recorded d call other_machine reply entries reserved there below machine replies recorded gains in
     let history : IsHistory P (expanded d.journal ++ one ∷ []) (next P s call).0 =
     longer P (expanded d.journal) s call reply meant.history told.answer in
@@ -158,7 +158,7 @@ called_recorded d call other_machine reply entries reserved there below machine 
     let s : State = state_of d in
     let P : PartData = d.machine.part in
     let one : AnsweredCall = record { call = call; reply = reply } in
-    let told : Told d call other_machine reply entries reserved =
+    let told : AnsweredCommand d call other_machine reply entries reserved =
     told_recorded d call other_machine reply entries reserved there below machine replies recorded gains in
     let said : Answer = Ok reply in
     let gain : gained P s call said ≡ one ∷ [] = rw recorded refl in
@@ -245,7 +245,7 @@ called_full law d call there full =
         → next part s call ≡ (s, Err JournalFull)
     told part s call there full = rw (there, full) refl
 
--- a domain that stays for want of memory has answered a call that the private farm doesn't refuse
+-- a domain that stays as there is no memory has answered a call that the private farm doesn't refuse
 pub called_no_memory : UnchangedCountsNothing → (d : DomainValue) (call : Call) → is_there d.machine.part call ≡ true
     → length (expanded d.journal) ≢ d.machine.part.limit
     → IsCalled call (Err NoMemory) d d

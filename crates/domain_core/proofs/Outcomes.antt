@@ -56,7 +56,7 @@ marked_more mask i =
 not_set : (bit : ℕ) → bit ≡ 0 → (bit == 1) ≡ false
 not_set bit is = rw is refl
 
--- if what is left of a mask behind its first bits is 0, the outputs behind them aren't marked
+-- if what is left of a mask after its first bits is 0, the outputs after them aren't marked
 pub none_behind : (mask i : ℕ) → mask / 2 ^ i ≡ 0 → (more : ℕ)
     → marked_by mask (range_with_len 0 (i + more)) ≡ marked_by mask (range_with_len 0 i)
 none_behind mask i nothing zero =
@@ -81,7 +81,7 @@ none_below mask bound zeros (suc i) few =
     ∙ ap (λ (qs : List ℕ). qs ++ marked_by mask (i ∷ [])) (none_below mask bound zeros i (omega (arith, few)))
     ∙ none_marked mask i (not_set (bit_at mask i) (zeros i (omega (arith, few))))
 
--- nor below any output that isn't behind it
+-- nor below any output that isn't after it
 pub none_before : (mask first : ℕ) → 0 < mask → mask < 2 ^ 32 → first ≤ trailing_zeros w32 mask
     → marked_by mask (range_with_len 0 first) ≡ []
 none_before mask first some fits low =

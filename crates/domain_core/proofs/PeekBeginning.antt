@@ -112,7 +112,7 @@ begins peek =
     ∙ ap (λ (x : Node). standing peek 0 (asking peek.address (first_host peek)) x)
     (listens-is peek.route.link (first_node peek) peek.can.listens)
 
--- the host that was told the word
+-- the host that was given the word
 abbrev pub told_word : Peeking → HostState
 told_word peek = host_after_peek (word_bytes (first_node peek) peek.address) (first_host peek)
 

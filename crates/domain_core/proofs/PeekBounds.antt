@@ -1,5 +1,5 @@
 -- A port that is driven is one of the part's, and so is the node
--- of a link that stands at a port, for the Moves of a peek.
+-- of a link that is at a port, for the Moves of a peek.
 use Rattle.std.proofs.Common.{◌≡◌, ℕ, ◌+◌, ◌<◌, ◌≤◌, ◌==◌, Bool, true, false, List, [], ◌∷◌, length, Option, Some, None}
 use Rattle.std.proofs.Common.{if◌then◌else◌, subst, arith}
 use Rattle.std.specs.List.{All, range_with_len}
@@ -78,7 +78,7 @@ nodes-below bound number (n ∷ nodes) port le =
     (links-below bound number n.links port (omega arith))
     (nodes-below bound (number + 1) nodes port (omega arith))
 
--- the node of a link that stands at a port is one of the part's
+-- the node of a link that is at a port is one of the part's
 pub node-below : (part : PartData) (port node : ℕ) (link : LinkNumber) → device_at part port ≡ Some (Link node link)
     → node < length part.nodes
 node-below part port node link same =

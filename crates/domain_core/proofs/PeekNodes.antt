@@ -18,7 +18,7 @@ use Rattle.bootstrap.specs.declared.state.Task.TheVariants.{Peek}
 use Rattle.domain_core.specs.Peek.{quieted}
 use Rattle.domain_core.proofs.PeekPlaces.{packet_sent, packet_got}
 
--- ---- link ends, with so many overruns
+-- ---- link ends, with that many overruns
 
 -- a link end by its parts
 abbrev pub end_of : Option ℕ → Bool → Option ℕ → ℕ → Bool → Bool → LinkEnd
@@ -66,7 +66,7 @@ own-end One n = refl
 own-end Two n = refl
 own-end Three n = refl
 
--- the end that was put in place stands there
+-- the end that was put in place is there
 pub end-there : (link : LinkNumber) (e : LinkEnd) (state : NodeState) (n : Node)
     → (at link (with_end link e state n).links).end ≡ e
 end-there Zero e state n = refl

@@ -35,7 +35,7 @@ use Rattle.domain_core.proofs.PeekCalls.{next-recorded}
 
 -- ---- devices in their places
 
--- the devices with this host and this node in place of those on the route
+-- the devices with this host and this node instead of those on the route
 abbrev pub placed : PeekRoute → DeviceStates → HostState → Node → DeviceStates
 placed r d h n = with_host r.host h (with_node r.node n d)
 
@@ -122,7 +122,7 @@ pub record Peeking : Type 0 where
   pub known : is_known part by ≡ true
   pub can : CanPeek part route address start
 
--- the state with this host and this node, so many events after the start
+-- the state with this host and this node, that many events after the start
 abbrev pub standing : Peeking → ℕ → HostState → Node → State
 standing peek count h n = record {
   machine = with_devices (placed peek.route peek.start.machine.devices h n) peek.start.machine;

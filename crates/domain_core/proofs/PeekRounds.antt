@@ -31,7 +31,7 @@ host_posting byte rest received overruns heard =
 abbrev pub host_resting : List ℕ → List ℕ → ℕ → HostState
 host_resting sending received overruns = host_of sending received (resting overruns)
 
--- the state so many events later, where the link of this node has this end and the node does this
+-- the state that many events later, where the link of this node has this end and the node does this
 abbrev pub reached : Peeking → ℕ → HostState → LinkEnd → doing.NodeState → Node → State
 reached peek count h e state n = standing peek count h (with_end peek.route.link e state n)
 

@@ -179,7 +179,7 @@ word-answered peek =
     leads-between peek.part _ _ _ _ _ _ (begins peek) (ends peek)
     (leads-on peek.part _ _ _ _ _ _ _ (message-goes peek) (word-comes peek))
 
--- a host that asks a node which listens is told the word
+-- a host that asks a node which listens is given the word
 pub peek-told : PeekAnswersTheWord
 peek-told part by r address s known can =
     let p : Peeking =

@@ -118,7 +118,7 @@ periods_last add answers (suc q) p x once =
     (answers x x (q * p) p (periods_after add q p x once))
     ∙ later_twice (last_answer p x) (last_answer (q * p) x) (periods_last add answers q p x once))
 
--- a ticket that counts so many Steps more, with the same copy
+-- a ticket that counts that many Steps more, with the same copy
 abbrev pub counted : TicketValue → ℕ → TicketValue
 counted t more =
     record {

@@ -1,5 +1,5 @@
--- Entries that expand to several Steps: what a journal stands
--- for as it grows, for `Entries` and the law `journals_add_up`.
+-- Entries that expand to several Steps: what a journal
+-- stands for as it grows, for `Entries` and the law `journals_add_up`.
 use Rattle.std.proofs.Common.{◌≡◌, ℕ, zero, suc, ◌+◌, List, [], ◌∷◌, ◌++◌, length, replicate, refl, sym, ap, ◌∙◌, arith}
 use Rattle.std.proofs.Common.{append_assoc, add-suc, ◌<◌, ◌≤◌, ◌-◌, ◌^◌, take, drop, slice_set, slice_index_or}
 use Rattle.std.proofs.lemmas.List.{length-append, append-nil, replicate-append-replicate, length-replicate}
@@ -43,13 +43,13 @@ steps-add_suc : (by : By) (node before count : ℕ) (last : Stepped)
 steps-add_suc by node before count last =
     rw (add-suc, steps-ran by node before, ← append_assoc, replicate-append-replicate) refl
 
--- Steps that ran and some more are so many Steps in a row
+-- Steps that ran and some more are that many Steps in a row
 pub steps-add : (by : By) (node before count : ℕ) (last : Stepped) → 0 < count
     → steps by node (before + count) last ≡ steps by node before Ran ++ steps by node count last
 steps-add by node before zero last some = absurd (omega arith)
 steps-add by node before (suc count) last some = steps-add_suc by node before count last
 
--- a run of so many Steps stands for so many events
+-- a run of that many Steps stands for that many events
 pub length-steps : (by : By) (node count : ℕ) (last : Stepped) → length (steps by node count last) ≡ count
 length-steps by node zero last = refl
 length-steps by node (suc count) last =
@@ -59,13 +59,13 @@ length-steps by node (suc count) last =
       length-replicate count (answered_step by node Ran),
     )
 
--- a new run at the end stands for its Steps behind what stood there
+-- a new run at the end stands for its Steps after what was there
 pub expanded_new : (old new : List Entry) (by : By) (node count : ℕ) (last : Stepped)
     → new ≡ old ++ Run by node count last ∷ []
     → expanded new ≡ expanded old ++ steps by node count last
 expanded_new old new by node count last is = rw (is, expanded-append, append-nil (steps by node count last)) refl
 
--- a run at the end that goes on stands for the new Steps behind what stood there
+-- a run at the end that goes on stands for the new Steps after what was there
 pub expanded_grown : (front old new : List Entry) (by : By) (node before count : ℕ) (last : Stepped)
     → 0 < count → old ≡ front ++ Run by node before Ran ∷ [] → new ≡ front ++ Run by node (before + count) last ∷ []
     → expanded new ≡ expanded old ++ steps by node count last
@@ -88,7 +88,7 @@ pub expanded_one : (old new : List Entry) (by : By) (event : Event) (reply : Rep
     → expanded new ≡ expanded old ++ record { call = record { by = by; event = event }; reply = reply } ∷ []
 expanded_one old new by event reply is = rw (is, expanded-append) refl
 
--- the last entry, and what stands before it
+-- the last entry, and what is before it
 drop_one : (k : ℕ) (xs : List Entry) (entry : Entry) → length xs ≡ suc k → entry ≡ slice_index_or xs k entry
     → drop k xs ≡ entry ∷ []
 drop_one zero [] entry one is = absurd (omega (arith, one))
@@ -112,7 +112,7 @@ last_set n xs entry other_entry all some is =
     ∙ ap (λ (i : ℕ). slice_set (take (n - 1) xs ++ entry ∷ []) i other_entry) (sym front)
     ∙ set-append_seam (take (n - 1) xs) entry [] other_entry
 
--- a run that stands last has room for so many Steps more, if the journal has
+-- a run that is last has room for that many Steps more, if the journal has
 pub run_has_room : (n : ℕ) (xs : List Entry) (entry : Entry) (by : By) (node before count : ℕ) → n ≡ length xs → 0 < n
     → entry ≡ slice_index_or xs (n - 1) entry
     → length (expanded xs) + count ≤ 2 ^ 40 → entry ≡ Run by node before Ran → before + count ≤ 2 ^ 40
@@ -122,7 +122,7 @@ run_has_room n xs entry by node before count all some is few run =
     (last_of n xs entry all some is ∙ ap (λ (y : Entry). take (n - 1) xs ++ y ∷ []) run) in
     omega (arith, below, few)
 
--- setting a longer run in the place of the last entry puts the new Steps behind what the entries stand for
+-- setting a longer run in the place of the last entry puts the new Steps after what the entries stand for
 pub run_goes_on : (n : ℕ) (xs : List Entry) (entry other_entry : Entry) (by : By)
     (node before count : ℕ) (last : Stepped)
     → n ≡ length xs → 0 < n → entry ≡ slice_index_or xs (n - 1) entry

@@ -45,7 +45,7 @@ then_large d devices other_devices one two = record {
       two.hosts ∙ one.hosts;
 }
 
--- a node in place of one with as much memory leaves all as large
+-- a node instead of one with as much memory leaves all as large
 pub large_with_node : (d : DeviceStates) (number : ℕ) (n : Node) → length n.memory ≡ length (node_at d number).memory
     → AreAsLarge d (with_node number n d)
 large_with_node d number n same = record { memories = same_sizes d.nodes number n (opened_node 0) same; hosts = refl }
@@ -119,11 +119,11 @@ sizes_reopened : (nodes : List Node)
 sizes_reopened [] = refl
 sizes_reopened (n ∷ nodes) = rw (length-replicate {A = ℕ} (length n.memory) 0, sizes_reopened nodes) refl
 
--- nodes and hosts that are opened anew are as large as they were
+-- nodes and hosts that are opened again are as large as they were
 pub large_reopened : (d : DeviceStates) → AreAsLarge d (reopened d)
 large_reopened d = record { memories = sizes_reopened d.nodes; hosts = length-map d.hosts (λ h. opened_host) }
 
--- nodes and hosts that are each opened anew are the devices opened anew
+-- nodes and hosts that are each opened again are the devices opened again
 pub reopened_by : (d : DeviceStates) (ns : List Node) (hs : List HostState)
     → ns ≡ map (λ n. opened_node (length n.memory)) d.nodes → hs ≡ map (λ h. opened_host) d.hosts
     → (let devices : DeviceStates = record { nodes = ns; hosts = hs } in devices) ≡ reopened d

@@ -17,7 +17,7 @@ later_host : (number port : ℕ) (host : HostPart) (hosts : List HostPart) → h
     → host_at_port number (host ∷ hosts) port ≡ host_at_port (number + 1) hosts port
 later_host number port host hosts other = grind (arith, nat_tests)
 
--- looked for from a host on that stands at the port, the port's device is that host
+-- looked for from a host on that is at the port, the port's device is that host
 pub host_here : (i port : ℕ) (hosts : List HostPart) (host : HostPart) → i < length hosts
     → (get_or hosts i host).port ≡ port
     → host_at_port i (drop i hosts) port ≡ Some (Host i)
@@ -25,7 +25,7 @@ host_here i port hosts host lt here =
     ap (λ (rest : List HostPart). host_at_port i rest port) (drop_more hosts i host lt)
     ∙ first_host i port (get_or hosts i host) (drop (i + 1) hosts) here
 
--- looked for from a host on that stands at another port, the port's device is looked for from the next on
+-- looked for from a host on that is at another port, the port's device is looked for from the next on
 pub host_further : (i port : ℕ) (hosts : List HostPart) (host : HostPart)
     → i < length hosts → (get_or hosts i host).port ≢ port
     → host_at_port i (drop i hosts) port ≡ host_at_port (i + 1) (drop (i + 1) hosts) port

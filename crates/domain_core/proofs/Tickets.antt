@@ -29,7 +29,7 @@ fresh_is_ticket domain number home start node one two = record {
   most = omega arith;
 }
 
--- a ticket with this copy after so many Steps more, of which this is the last answer
+-- a ticket with this copy after that many Steps more, and this is the last answer
 abbrev pub gone_on : TicketValue → Node → ℕ → Option Stepped → TicketValue
 gone_on t node more last =
     record { domain = t.domain; number = t.number; start = t.start; node = node; steps = t.steps + more; last = last }
@@ -72,7 +72,7 @@ ends n most steps before top quiet ended is few at_most below =
 under : (n most steps before top : ℕ) → most ≡ min n (top - before) → steps ≤ most → steps ≤ n
 under n most steps before top is few = omega (arith, is, few)
 
--- a burst does just the Steps up to the nth, to the first that wouldn't be recorded, or to the most of a ticket
+-- a burst does exactly the Steps up to the nth, to the first that wouldn't be recorded, or to the most of a ticket
 pub ticket_bursts : (t : TicketValue) (node : Node) (burst : Burst) (n most : ℕ) (last : Option Stepped)
     → IsTicket t → IsBurst most t.node burst node → most ≡ min n (most_steps - t.steps)
     → last ≡ later_or burst.last t.last

@@ -17,7 +17,7 @@ use Rattle.domain_core.specs.declared.device.Device.TheVariants.{Host, Link}
 use Rattle.domain_core.specs.Devices.{or_else, is_wired_to, host_at_port, link_at_port, link_of_four, device_at}
 use Rattle.domain_core.specs.Wiring.{link_index, Names, DevicesAreWhereNamed}
 
--- ---- numbers of a list, each of which stands there once
+-- ---- numbers of a list that occur there once each
 
 abbrev Has : List ℕ → ℕ → Type 0
 Has [] x = ⊥
@@ -373,7 +373,7 @@ found part port (Link number link) apart four at =
     (apart_right (host_ports part.hosts) (flat_map wired_ports part.nodes) apart) at.there at.port_is
     ∙ ap (λ (n : ℕ). Some (Link n link)) (zero_more number)
 
--- a device is joined to a port just if an accepted domain's part names the port for it
+-- a device is joined to a port exactly if an accepted domain's part names the port for it
 pub devices_are_where_named : DevicesAreWhereNamed
 devices_are_where_named part port device is four =
     (named part port device, found part port device (each_once (ports_used part) is.distinct) four)

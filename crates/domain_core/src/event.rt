@@ -73,7 +73,7 @@ pub enum Reply {
 
 /// What a user asked, and the answer.
 #[derive(Clone, Copy)]
-pub struct Told {
+pub struct AnsweredCommand {
     /// What was asked.
     pub event: Event,
     /// What was answered.

@@ -22,7 +22,7 @@ pub use copying::Mark;
 pub use device::Device;
 pub use domain::{Committed, Domain};
 pub use entries::{ENTRY_BYTES, LOOK_BYTES, TOLD_BYTES};
-pub use event::{By, Event, Moved, Refusal, Reply, Told};
+pub use event::{AnsweredCommand, By, Event, Moved, Refusal, Reply};
 pub use host::{Host, QUEUE_BYTES};
 pub use journal::{Entry, Journal};
 pub use laws::peek_answers_the_word;

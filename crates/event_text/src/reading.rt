@@ -2,10 +2,10 @@
 
 use crate::request::{DomainRequest, RepeatedRequest, Request};
 use domain_core::{By, Event, TICKET_STEPS};
-use line_mistakes::{Wanted, WordForm, WordHint, WordRole};
-use line_words::{WordFault, Words};
+use lab_words::{WordFault, Words};
 use script_text::decimal_number;
 use std::alloc::{AllocError, Global};
+use word_mistakes::{Wanted, WordForm, WordHint, WordRole};
 
 /// The most times that one line is asked, unless it asks the farm for Steps.
 const MOST_TIMES: u64 = 1_000_000;

@@ -1,7 +1,7 @@
 //! The script program: it gives `run` of `farm_program` the words and the streams of the process.
 #![tactic(auto)]
 
-use farm_input::refuse_arguments;
+use farm_cli::refuse_arguments;
 use farm_program::run;
 use std::process::ExitCode;
 use std::{env, io};

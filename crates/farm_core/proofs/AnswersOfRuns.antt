@@ -1,4 +1,4 @@
--- What the callers of a run are told, call by call, for the clauses
+-- What the callers of a run are answered, call by call, for the clauses
 -- `whole`, `elsewhere` and `one_each` of `run` and for `answers_to`.
 use Rattle.std.proofs.Common.{◌≡◌, inl, inr, ℕ, suc, ◌+◌, ◌<◌, None, Ok, Err, List, [], ◌∷◌, ◌++◌, length, get_or, drop}
 use Rattle.std.proofs.Common.{slice_get, map, All, refl, sym, ap, ◌∙◌, subst, add-one, drop-cons, append_assoc}
@@ -24,7 +24,8 @@ use Rattle.farm_core.proofs.Lists.{own-here, own-there}
 
 -- ---- call by call
 
--- what was told so far, and then what a whole farm made of the domains tells of the calls left, is all that is told
+-- what was answered so far, and then what a whole farm made of the domains answers to the calls left, is all that
+-- is answered
 pub record IsToldSoFar (plan : List Place) (told : List Answer) (left all : List (ℕ × Call))
     (domains : List DomainValue) : Type 0 where
   pub farm : Farm
@@ -32,7 +33,7 @@ pub record IsToldSoFar (plan : List Place) (told : List Answer) (left all : List
   pub made : IsMadeOf plan farm (all_states domains)
   pub told_is : told ++ caller_answers_from plan farm left ≡ caller_answers plan all
 
--- before the first call nothing was told, and the whole farm will tell all of it
+-- before the first call nothing was answered, and the whole farm will answer all of it
 pub told_nothing : (plan : List Place) (calls : List (ℕ × Call)) (domains : List DomainValue)
     → all_places domains ≡ plan
     → IsMadeOf plan (whole_opening plan) (all_states domains)
@@ -130,7 +131,7 @@ none_elsewhere law plan farm (call ∷ calls) domain none =
       | inr ne ↦ subst (All IsNoSuch) (sym (own-there domain head rest ne)) later
     ]
 
--- a call of a domain that the plan doesn't have is told that there is none
+-- a call of a domain that the plan doesn't have is answered that there is none
 pub nobody_elsewhere : NoDomainNoChange → (plan : List DomainData) (calls : List (ℕ × Call))
     → NobodyElsewhere plan calls (caller_answers (places_of plan) calls)
 nobody_elsewhere law plan calls domain none =

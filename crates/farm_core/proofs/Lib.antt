@@ -1,4 +1,4 @@
--- lists, and the domains that stand in them
+-- lists, and the domains that are in them
 pub mod Lists
 -- the contracts of a farm without threads, and of a run
 pub mod Opened

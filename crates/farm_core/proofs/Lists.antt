@@ -1,4 +1,4 @@
--- What stands in a list and in one that was made of it, and one domain's own of a list, for the other lemmas of this
+-- What is in a list and in one that was made of it, and one domain's own of a list, for the other lemmas of this
 -- folder.
 use Rattle.std.proofs.Common.{◌≡◌, ◌≢◌, inl, inr, ℕ, zero, suc, ◌<◌, true, false, Option, None, Some, List, [], ◌∷◌}
 use Rattle.std.proofs.Common.{length, slice_get, slice_set, option_map, Contains, refl, sym, ap, ◌∙◌, arith, ◌==◌}
@@ -11,9 +11,9 @@ use Rattle.whole_farm.specs.Projection.{own}
 use Rattle.whole_farm.specs.Merges.{own_place}
 use Rattle.whole_farm.specs.Values.{all_places}
 
--- ---- what stands in a list
+-- ---- what is in a list
 
--- below the length of a list something stands
+-- below the length of a list something is
 pub there_is : {X : Type 0} (xs : List X) (i : ℕ) → i < length xs → (x : X) × (slice_get xs i ≡ Some x)
 there_is xs i inside =
     elim (slice_get_cases xs i).1 [
@@ -21,7 +21,7 @@ there_is xs i inside =
       | inr past ↦ absurd (omega (arith, past.0))
     ]
 
--- what is stored in a place stands there
+-- what is stored in a place is there
 pub get-set_same : {X : Type 0} (xs : List X) (i : ℕ) (x y : X) → slice_get xs i ≡ Some y
     → slice_get (slice_set xs i x) i ≡ Some x
 get-set_same [] i x y at = absurd (none-some y at)
@@ -37,11 +37,11 @@ get-set_other (z ∷ xs) zero (suc j) x ne = refl
 get-set_other (z ∷ xs) (suc i) zero x ne = refl
 get-set_other (z ∷ xs) (suc i) (suc j) x ne = get-set_other xs i j x (λ e. ne (ap suc e))
 
--- a port that stands in a list is one of its ports
+-- a port that is in a list is one of its ports
 pub contains_at : (ports : List ℕ) (v port : ℕ) → slice_get ports v ≡ Some port → Contains ports port
 contains_at ports v port at = (v, slice_get_within ports v port at, get_or_from_slice_get ports v port port at)
 
--- a port among the ports stands somewhere in their list
+-- a port among the ports is somewhere in their list
 pub at_contained : (ports : List ℕ) (port : ℕ) → Contains ports port → (v : ℕ) × (slice_get ports v ≡ Some port)
 at_contained ports port is = (is.0, slice_get-get_or ports is.0 port is.1 ∙ ap (λ (x : ℕ). Some x) is.2)
 

@@ -24,7 +24,7 @@ use Rattle.farm_core.proofs.Lists.{get-set_same, get-set_other}
 
 -- ---- one domain for another
 
--- a list in which one domain stands in the place of another that has its part and ports
+-- a list in which one domain is in the place of another that has its part and ports
 pub record Replaces (domains later : List DomainValue) (domain : ℕ) (old new : DomainValue) : Type 0 where
   pub there : slice_get domains domain ≡ Some old
   pub later_is : later ≡ slice_set domains domain new
@@ -101,7 +101,7 @@ state_at domains domain d at = slice_get-map state_of domains domain ∙ ap (opt
 
 -- ---- a call
 
--- the domain at the number is called, and told so
+-- the domain at the number is called, and answered so
 pub called_at : (domains later : List DomainValue) (domain : ℕ) (old new : DomainValue) (call : Call) (told : Answer)
     → Replaces domains later domain old new
     → IsCalled call told old new
@@ -188,7 +188,7 @@ place_of_committed t (Ok Done) old new is =
 place_of_committed t (Ok Stale) old new is = ap own_place (is.same (λ e. cc))
 place_of_committed t (Err refusal) old new is = ap own_place (is.same (λ e. cc))
 
--- the ticket is committed to the domain at the number, and its caller told so
+-- the ticket is committed to the domain at the number, and its caller answered so
 pub committed_at : (domains later : List DomainValue) (domain : ℕ) (old new : DomainValue) (t : TicketValue)
     (told : Result Committed Refusal)
     → Replaces domains later domain old new

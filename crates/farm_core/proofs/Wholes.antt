@@ -20,7 +20,7 @@ use Rattle.farm_core.proofs.Lists.{own-here, own-there}
 abbrev tagged : ℕ → List AnsweredCall → List (ℕ × AnsweredCall)
 tagged number journal = map (λ a. (number, a)) journal
 
--- journals of which the first is the domain's of this number
+-- journals whose first is the domain's of this number
 abbrev joined_from : ℕ → List (List AnsweredCall) → List (ℕ × AnsweredCall)
 joined_from number [] = []
 joined_from number (journal ∷ journals) = tagged number journal ++ joined_from (number + 1) journals

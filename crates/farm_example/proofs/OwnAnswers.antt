@@ -1,4 +1,4 @@
--- What the callers of one domain are told, call by call, for the clause `alone` of `answers_of`.
+-- What the callers of one domain are answered, call by call, for the clause `alone` of `answers_of`.
 use Rattle.std.proofs.Common.{◌≡◌, ◌≢◌, ℕ, ◌+◌, ◌<◌, true, false, List, [], ◌∷◌, ◌++◌, length, get_or, drop, map}
 use Rattle.std.proofs.Common.{refl, sym, ap, ◌∙◌, subst, add-one, drop-cons, append_assoc, ◌==◌}
 use Rattle.std.proofs.lemmas.Bool.{eq-eqb, ne_eqb}
@@ -23,7 +23,7 @@ answers-here : (domain : ℕ) (call : ℕ × By × Event) (answer : Answer) (cal
 answers-here domain call answer calls told same =
     let test : (call.0 == domain) ≡ true = eq-eqb _ _ same in rw test refl
 
--- if it is another domain's, they are those to the calls behind it
+-- if it is another domain's, they are those to the calls after it
 answers-there : (domain : ℕ) (call : ℕ × By × Event) (answer : Answer) (calls : List (ℕ × By × Event))
     (told : List Answer) → call.0 ≢ domain
     → answers_among domain (calls_asked (call ∷ calls)) (answer ∷ told)

@@ -39,7 +39,7 @@ impl Visitor<'_> {
 }
 
 // A session for each user of a service.
-fn users_of<'a>(
+fn visitors<'a>(
     alloc: Global,
     service: &'a Service,
     passes: Vec<UserPass>,
@@ -79,7 +79,7 @@ pub fn ask_in_threads<R: Threads + Wait + Sync>(
         users,
         operator: _,
     } = Service::open(rt, alloc, plan, 1)?;
-    let mut users = users_of(alloc, &service, users)?;
+    let mut users = visitors(alloc, &service, users)?;
     let act = |_place: usize, user: &mut Visitor<'_>| user.ended = user.ask_all(rt, alloc);
     run_users_and_workers(
         rt,

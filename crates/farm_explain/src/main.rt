@@ -1,10 +1,10 @@
 //! Runs a script as `farm` does. If its text is refused, it says then on standard error where and why.
 #![tactic(auto)]
 
-use farm_input::{refuse_arguments, text_read};
+use farm_cli::{refuse_arguments, text_read};
 use farm_program::{run, settings};
-use line_faults::tell_wrong_lines;
-use plan_faults::{PlanRefusal, plan_or_reason};
+use plan_mistakes::{PlanRefusal, plan_or_reason};
+use script_mistakes::tell_wrong_lines;
 use script_text::{PlanText, divide_at_plan_end, write_whole};
 use std::alloc::{AllocError, Global};
 use std::env;

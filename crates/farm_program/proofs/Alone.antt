@@ -56,7 +56,7 @@ own-append domain xs ys =
 abbrev of_domain : ℕ → List AnsweredCall → List (ℕ × AnsweredCall)
 of_domain domain history = map (λ a. (domain, a)) history
 
--- histories one after another, the first of which has this number
+-- histories one after another, and the first has this number
 abbrev in_turn : ℕ → List (List AnsweredCall) → List (ℕ × AnsweredCall)
 in_turn number [] = []
 in_turn number (history ∷ histories) = of_domain number history ++ in_turn (suc number) histories
@@ -94,7 +94,7 @@ own_in_turn (history ∷ histories) number domain (suc at) is =
     ∙ (λ k. not_own domain number history (λ e. omega (arith, e, is)) k
     ++ own_in_turn histories (suc number) domain at (omega (arith, is)) k)
 
--- ---- what a merge is told
+-- ---- what a merge is answered
 
 zipped : (merge : List (ℕ × AnsweredCall))
     → zip (map (λ c. c.0) (merged_calls merge)) (merged_answers merge) ≡ map (λ x. (x.0, Ok x.1.reply)) merge

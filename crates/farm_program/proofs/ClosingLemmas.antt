@@ -13,7 +13,7 @@ use Rattle.farm_service.specs.declared.closed.ClosedDomain.{ClosedDomain}
 use Rattle.farm_service.specs.Passes.{SessionValue, UserPassValue, fresh_pass, passes_opened, passes_from, fresh_passes}
 use Rattle.farm_service.specs.Closed.{AreListed}
 use Rattle.plan_rules.specs.Users.{all_names}
-use Rattle.farm_program.specs.declared.users.UserEnd.{UserEnd}
+use Rattle.farm_program.specs.declared.users.UserOutcome.{UserOutcome}
 use Rattle.farm_program.specs.Closing.{ArePassesOf, AreAllListed}
 use Rattle.farm_program.specs.Users.{commands_at, unasked, IsLeftBy, HaveAnswered}
 use Rattle.farm_program.proofs.Openings.{as_many}
@@ -40,17 +40,18 @@ fresh_from number (d ∷ plan) =
     ∙ (λ k. fresh_in number (length d.users) k ++ fresh_from (suc number) plan k)
 
 -- a pass that gained answered commands alone is the same user's
-same_pass : (plan : List DomainData) (pass : UserPassValue) (name : List ℕ) (commands : List Command) (end : UserEnd)
+same_pass : (plan : List DomainData) (pass : UserPassValue) (name : List ℕ) (commands : List Command)
+    (end : UserOutcome)
     → IsLeftBy plan pass name commands end → unasked end.pass ≡ unasked pass
 same_pass plan pass name commands end answered =
     ap (λ (s : SessionValue). unasked s.pass) answered.gains.list
 
 -- users of a plan who were all answered leave its passes
-pub passes_kept : (plan : List DomainData) (lines : List ScriptLine) (ends : List UserEnd)
+pub passes_kept : (plan : List DomainData) (lines : List ScriptLine) (ends : List UserOutcome)
     → HaveAnswered plan lines ends → ArePassesOf plan (map (λ e. e.pass) ends)
 passes_kept plan lines ends answered =
-    map-map unasked (λ (e : UserEnd). e.pass) ends
-    ∙ same_lists (λ (e : UserEnd). unasked e.pass) unasked ends (fresh_passes plan) answered.count
+    map-map unasked (λ (e : UserOutcome). e.pass) ends
+    ∙ same_lists (λ (e : UserOutcome). unasked e.pass) unasked ends (fresh_passes plan) answered.count
     (λ place end pass at_end at_pass.
     let name =
     there_is (all_names plan) place

@@ -1,4 +1,4 @@
--- The users of a plan, one after another, and what their lines ask: the contracts of `users_of` and `commands_at`.
+-- The users of a plan, one after another, and what their lines ask: the contracts of `script_users` and `commands_at`.
 use Rattle.std.proofs.Common.{◌≡◌, ◌<◌, ◌+◌, ℕ, zero, suc, List, [], ◌∷◌, ◌++◌, Bor, length}
 use Rattle.std.proofs.Common.{map, take, get_or, All}
 use Rattle.std.proofs.Common.{refl, sym, ap, ◌∙◌, subst, arith, length-append}
@@ -33,7 +33,7 @@ line_more lines i place line within is =
     ∙ ap (λ (l : ScriptLine). commands_at (take i lines ++ l ∷ []) place) (sym is)
     ∙ commands_more (take i lines) line place
 
--- a line of the user of a place adds its command to his
+-- a line of the user of a place adds its command to the user's
 pub line_of_user : (lines : List ScriptLine) (i place : ℕ) (line : ScriptLine) (commands more : List (Bor Command))
     (command : Bor Command)
     → i < length lines → line ≡ get_or lines i line → line.user ≡ place

@@ -5,7 +5,7 @@ use Rattle.std.specs.Io.KnownBytes.{Appends}
 use Rattle.script_text.specs.Writing.{AppendsBeginning}
 use Rattle.farm_program.specs.Output.{IsOutput, PrintsBeginning}
 
--- screens of which a beginning is written print a beginning
+-- screens whose beginning is written print a beginning
 pub some_printed : {A : Type 0} (bytes : A → List ℕ) (text : List ℕ) (before after : Option (List ℕ)) (xs ys : List A)
     → ys ≡ xs → IsOutput text (concat (map bytes xs)) → AppendsBeginning before after (concat (map bytes ys))
     → PrintsBeginning text before after

@@ -8,7 +8,7 @@ use Rattle.std.proofs.lemmas.Option.{slice_get_within, get_or_from_slice_get}
 use Rattle.plan_rules.specs.Data.{DomainData}
 use Rattle.script_lines.specs.declared.command.Command.{Command}
 use Rattle.script_lines.specs.declared.script.ScriptLine.{ScriptLine}
-use Rattle.domain_core.specs.declared.event.Told.{Told}
+use Rattle.domain_core.specs.declared.event.AnsweredCommand.{AnsweredCommand}
 use Rattle.farm_service.specs.declared.closed.ClosedDomain.{ClosedDomain}
 use Rattle.farm_service.specs.Passes.{SessionValue, UserPassValue, fresh_pass, passes_opened, passes_from, fresh_passes}
 use Rattle.farm_service.specs.Closed.{AreListed, IsListed, IsFull, IsNearlyFull, MetFullTruly, AllMetFullTruly}
@@ -17,9 +17,9 @@ use Rattle.farm_service.specs.Commands.{commands_of}
 use Rattle.line_answers.specs.Lines.{AreAnsweredLines}
 use Rattle.line_answers.specs.Sessions.{with_all}
 use Rattle.line_answers.specs.Laws.{FullIsSaidTruly}
-use Rattle.farm_program.specs.declared.farm.ScriptEnd.{ScriptEnd}
-use Rattle.farm_program.specs.declared.farm.UsersEnd.{UsersEnd}
-use Rattle.farm_program.specs.declared.users.UserEnd.{UserEnd}
+use Rattle.farm_program.specs.declared.farm.ScriptOutcome.{ScriptOutcome}
+use Rattle.farm_program.specs.declared.farm.UserOutcomes.{UserOutcomes}
+use Rattle.farm_program.specs.declared.users.UserOutcome.{UserOutcome}
 use Rattle.farm_program.specs.Users.{commands_at, session_of, IsLeftBy, HaveAnswered}
 use Rattle.farm_program.specs.Screens.{IsScreen, AreScreens}
 use Rattle.farm_program.proofs.Places.{read_at, there_is}
@@ -44,9 +44,9 @@ some_then : {A : Type 0} (value : Option A) (P Q : A → Type 0) → ((x : A) �
 some_then None P Q then given = tt
 some_then (Some x) P Q then given = then x given
 
--- a user's screen, who has given his pass back
+-- the screen of a user who has given the pass back
 one_screen : FullIsSaidTruly → (plan : List DomainData) (closed : List ClosedDomain) (pass : UserPassValue)
-    (name : List ℕ) (commands : List Command) (end : UserEnd)
+    (name : List ℕ) (commands : List Command) (end : UserOutcome)
     → pass.told ≡ [] → IsLeftBy plan pass name commands end
     → IsListed closed end.pass → MetFullTruly plan closed end.pass
     → IsScreen plan closed pass name commands (string_bytes end.screen)
@@ -58,11 +58,12 @@ one_screen law plan closed pass name commands end unasked lines listed truly =
     ≡ with_all (session_of plan pass) lines.told end.pass.met_full end.pass.met_nearly_full =
     lines.gains.list in
     let told : end.pass.told ≡ lines.told =
-    ap (λ (s : SessionValue). s.pass.told) at ∙ ap (λ (before : List Told). before ++ lines.told) unasked in
+    ap (λ (s : SessionValue). s.pass.told) at ∙ ap (λ (before : List AnsweredCommand). before ++ lines.told) unasked in
     let own : AreAnsweredLines P near (session_of plan pass) name commands lines.told screen =
     law plan closed (session_of plan pass) (session_of plan end.pass) name commands screen lines truly in
     let theirs : AreAnsweredLines P near (session_of plan pass) name commands end.pass.told screen =
-    subst (λ (list : List Told). AreAnsweredLines P near (session_of plan pass) name commands list screen) (sym told)
+    subst (λ (list : List AnsweredCommand). AreAnsweredLines P near (session_of plan pass) name commands list screen)
+    (sym told)
     own in
     let here : IfSome (slice_get closed pass.domain) (λ c. commands_of pass.user (history_of c) ≡ end.pass.told) =
     subst (λ (s : SessionValue). IfSome (slice_get closed s.pass.domain)
@@ -70,18 +71,19 @@ one_screen law plan closed pass name commands end unasked lines listed truly =
     at listed in
     some_then (slice_get closed pass.domain) (λ c. commands_of pass.user (history_of c) ≡ end.pass.told)
     (λ c. AreAnsweredLines P near (session_of plan pass) name commands (commands_of pass.user (history_of c)) screen)
-    (λ c is. subst (λ (list : List Told). AreAnsweredLines P near (session_of plan pass) name commands list screen)
+    (λ c is. subst (λ (list : List AnsweredCommand). AreAnsweredLines P near
+    (session_of plan pass) name commands list screen)
     (sym is) theirs)
     here
 
 -- users who were all answered, and whose commands closing lists, have the screens of the plan's users
-all_screens : FullIsSaidTruly → (plan : List DomainData) (lines : List ScriptLine) (ends : List UserEnd)
+all_screens : FullIsSaidTruly → (plan : List DomainData) (lines : List ScriptLine) (ends : List UserOutcome)
     (passes : List UserPassValue) (screens : List (List ℕ)) (closed : List ClosedDomain)
     → HaveAnswered plan lines ends → passes ≡ map (λ e. e.pass) ends
     → screens ≡ map (λ e. string_bytes e.screen) ends → AreListed closed passes → AllMetFullTruly plan closed passes
     → AreScreens plan lines closed screens
 all_screens law plan lines ends passes screens closed answered left shown listed truly = record {
-  count = ap length shown ∙ length-map ends (λ (e : UserEnd). string_bytes e.screen) ∙ answered.count;
+  count = ap length shown ∙ length-map ends (λ (e : UserOutcome). string_bytes e.screen) ∙ answered.count;
   each = λ place pass name screen at_pass at_name at_screen.
       let within : place < length ends =
       omega (arith, slice_get_within (fresh_passes plan) place pass at_pass, answered.count) in
@@ -91,7 +93,7 @@ all_screens law plan lines ends passes screens closed answered left shown listed
       (All-get_or (λ p. p.told ≡ []) (fresh_passes plan) place pass
       (slice_get_within (fresh_passes plan) place pass at_pass) (unasked_from 0 plan)) in
       let text : string_bytes e.0.screen ≡ screen =
-      read_at (λ (d : UserEnd). string_bytes d.screen) ends screens place e.0 screen (sym shown) e.1 at_screen in
+      read_at (λ (d : UserOutcome). string_bytes d.screen) ends screens place e.0 screen (sym shown) e.1 at_screen in
       subst (IsScreen plan closed pass name (commands_at lines place)) text
       (one_screen law plan closed pass name (commands_at lines place) e.0 unasked
       (answered.each place pass name e.0 at_pass at_name e.1)
@@ -99,20 +101,20 @@ all_screens law plan lines ends passes screens closed answered left shown listed
       (at_pass_of (MetFullTruly plan closed) place e.0 e.1 within truly));
 }
   where
-    at_pass_of : (P : UserPassValue → Type 0) (i : ℕ) (e : UserEnd) → slice_get ends i ≡ Some e → i < length ends
+    at_pass_of : (P : UserPassValue → Type 0) (i : ℕ) (e : UserOutcome) → slice_get ends i ≡ Some e → i < length ends
         → All P passes → P e.pass
     at_pass_of P i e here less all =
         subst P
         (ap (λ (ps : List UserPassValue). get_or ps i e.pass) left
-        ∙ get_or-map (λ (d : UserEnd). d.pass) ends i e e.pass less
-        ∙ ap (λ (d : UserEnd). d.pass) (get_or_from_slice_get ends i e e here))
+        ∙ get_or-map (λ (d : UserOutcome). d.pass) ends i e e.pass less
+        ∙ ap (λ (d : UserOutcome). d.pass) (get_or_from_slice_get ends i e e here))
         (All-get_or P passes i e.pass
-        (omega (arith, less, ap length left, length-map ends (λ (d : UserEnd). d.pass))) all)
+        (omega (arith, less, ap length left, length-map ends (λ (d : UserOutcome). d.pass))) all)
 
 -- the same of users with whose passes the service was then closed
 pub closed_screens : {E : Type 0} → FullIsSaidTruly → (plan opened_plan : List DomainData) (lines : List ScriptLine)
-    (ends : List UserEnd)
-    (left : UsersEnd) (outcome : Result ScriptEnd E)
+    (ends : List UserOutcome)
+    (left : UserOutcomes) (outcome : Result ScriptOutcome E)
     → opened_plan ≡ plan → HaveAnswered opened_plan lines ends
     → left.passes.items ≡ map (λ e. e.pass) ends
     → map string_bytes left.screens.items ≡ map (λ e. string_bytes e.screen) ends

@@ -11,7 +11,7 @@ use Rattle.farm_service.specs.Passes.{SessionValue, fresh_passes}
 use Rattle.line_answers.specs.Sessions.{AreAnswered}
 use Rattle.plan_rules.specs.Users.{all_names}
 use Rattle.farm_program.specs.declared.users.User.{User}
-use Rattle.farm_program.specs.declared.users.UserEnd.{UserEnd}
+use Rattle.farm_program.specs.declared.users.UserOutcome.{UserOutcome}
 use Rattle.farm_program.specs.Users.{commands_at, session_of, AreEndsOf, AreUsersOf, HasAnswered, HaveAnswered, IsLeftBy}
 use Rattle.farm_program.proofs.Places.{counted, mapped, read_at, same_lists, some_same, there_is}
 
@@ -40,8 +40,8 @@ many_left {H} {A} {E} hs returned left many all =
     sym (length-map left (λ (x : A). Ok x)) ∙ ap length all ∙ many
 
 -- threads of users leave their ends
-pub users_left : {H E : Type 0} (user : H → User) (hs : List H) (returned : List (Result UserEnd E))
-    (ends : List UserEnd)
+pub users_left : {H E : Type 0} (user : H → User) (hs : List H) (returned : List (Result UserOutcome E))
+    (ends : List UserOutcome)
     → AreKept (λ h. HasAnswered (user h)) hs returned → length returned ≡ length hs → map Ok ends ≡ returned
     → AreEndsOf (map user hs) ends
 users_left {H} {E} user hs returned ends kept many all =
@@ -56,7 +56,7 @@ users_left {H} {E} user hs returned ends kept many all =
           (kept_at (λ h. HasAnswered (user h)) hs returned ends kept all count place h.0 end h.1 at_end);
     }
 
--- threads that give back what they took leave just that
+-- threads that give back what they took leave exactly that
 pub same_left : {H A E : Type 0} (taken : H → A) (hs : List H) (returned : List (Result A E)) (left : List A)
     → AreKept (λ h a. a ≡ taken h) hs returned → length returned ≡ length hs → map Ok left ≡ returned
     → left ≡ map taken hs
@@ -68,7 +68,7 @@ same_left {H} {A} {E} taken hs returned left kept many all =
 
 -- users of a plan who left their ends have answered its script
 pub plan_answered : (plan : List DomainData) (lines : List ScriptLine) (steps : ℕ) (users : List User)
-    (ends : List UserEnd)
+    (ends : List UserOutcome)
     → AreUsersOf plan lines steps users → AreEndsOf users ends → HaveAnswered plan lines ends
 plan_answered plan lines steps users ends are left =
     let sessions : List SessionValue = map (session_of plan) (fresh_passes plan) in

@@ -11,7 +11,7 @@ use Rattle.script_text.specs.Writing.{AppendsBeginning}
 use Rattle.script_lines.specs.declared.script.ScriptLine.{ScriptLine}
 use Rattle.farm_service.specs.declared.closed.ClosedDomain.{ClosedDomain}
 use Rattle.farm_service.specs.Closed.{AreDomainsOf, EachMergeRuns, AllAreRightlyAsked, history_of}
-use Rattle.farm_input.specs.Requests.{IsTextOf}
+use Rattle.farm_cli.specs.Requests.{IsTextOf}
 use Rattle.farm_program.specs.Screens.{AreScreens}
 
 -- a farm that holds one domain alone gives exactly these answers from its opening on

@@ -1,8 +1,8 @@
 -- How a run of the program ends, by its status.
 use Rattle.std.specs.Prelude.{ℕ, Bool, List, Option}
-use Rattle.farm_input.specs.declared.failure.FarmFailure.{FarmFailure}
-use Rattle.farm_input.specs.Endings.{EndsByWords}
-use Rattle.farm_input.specs.Failures.{EndsBy}
+use Rattle.farm_cli.specs.declared.failure.FarmFailure.{FarmFailure}
+use Rattle.farm_cli.specs.Endings.{EndsByWords}
+use Rattle.farm_cli.specs.Failures.{EndsBy}
 
 -- a run ends by a failure, with this status: standard error gains its text, or a beginning of it if a write failed
 abbrev pub EndsByStatus : FarmFailure → ℕ → Option (List ℕ) → Option (List ℕ) → Type 0

@@ -8,7 +8,7 @@ use Rattle.farm_service.specs.Passes.{SessionValue, UserPassValue, fresh_pass, f
 use Rattle.line_answers.specs.Sessions.{AreAnswered}
 use Rattle.plan_rules.specs.Users.{all_names}
 use Rattle.farm_program.specs.declared.users.User.{User}
-use Rattle.farm_program.specs.declared.users.UserEnd.{UserEnd}
+use Rattle.farm_program.specs.declared.users.UserOutcome.{UserOutcome}
 
 -- what a script's lines ask for the user of a place among all, in order
 abbrev pub commands_at : List ScriptLine → ℕ → List Command
@@ -35,23 +35,23 @@ pub record AreUsersOf (plan : List DomainData) (lines : List ScriptLine) (steps 
 
 -- this is what the user of this name and pass leaves, whose lines were answered: the user's list gained the events of
 -- the lines, and the user's screen shows their output lines
-abbrev pub IsLeftBy : List DomainData → UserPassValue → List ℕ → List Command → UserEnd → Type 0
+abbrev pub IsLeftBy : List DomainData → UserPassValue → List ℕ → List Command → UserOutcome → Type 0
 IsLeftBy plan pass name commands end =
     AreAnswered name commands (session_of plan pass) (session_of plan end.pass) (string_bytes end.screen)
 
 -- this is what this user leaves, whose lines were answered
-abbrev pub HasAnswered : User → UserEnd → Type 0
+abbrev pub HasAnswered : User → UserOutcome → Type 0
 HasAnswered u end = IsLeftBy u.service.now.plan u.pass u.name.now (commands_at u.lines.now u.place) end
 
 -- so it is with each of these users, in their order
-pub record AreEndsOf (users : List User) (ends : List UserEnd) : Type 0 where
+pub record AreEndsOf (users : List User) (ends : List UserOutcome) : Type 0 where
   pub count : length ends ≡ length users
-  pub each : (place : ℕ) (u : User) (end : UserEnd)
+  pub each : (place : ℕ) (u : User) (end : UserOutcome)
       → slice_get users place ≡ Some u → slice_get ends place ≡ Some end → HasAnswered u end
 
 -- so it is with each user of a plan, in its order, and nobody else leaves anything
-pub record HaveAnswered (plan : List DomainData) (lines : List ScriptLine) (ends : List UserEnd) : Type 0 where
+pub record HaveAnswered (plan : List DomainData) (lines : List ScriptLine) (ends : List UserOutcome) : Type 0 where
   pub count : length ends ≡ length (fresh_passes plan)
-  pub each : (place : ℕ) (pass : UserPassValue) (name : List ℕ) (end : UserEnd)
+  pub each : (place : ℕ) (pass : UserPassValue) (name : List ℕ) (end : UserOutcome)
       → slice_get (fresh_passes plan) place ≡ Some pass → slice_get (all_names plan) place ≡ Some name
       → slice_get ends place ≡ Some end → IsLeftBy plan pass name (commands_at lines place) end

@@ -2,13 +2,13 @@
 ghost use Rattle.std.specs.Prelude.{◌≡◌, ◌≢◌, IfOk, IfErr, IfSome, map, string_bytes};
 ghost use Rattle.std.specs.List.{concat};
 ghost use Rattle.std.specs.Io.KnownBytes.{Keeps};
-ghost use Rattle.farm_input.specs.declared.failure.FarmFailure.{FarmFailure as SpecFailure};
-ghost use Rattle.farm_input.specs.Failures.{EndsBy, IsFailure};
-ghost use Rattle.farm_input.specs.Settings.{InRange};
+ghost use Rattle.farm_cli.specs.declared.failure.FarmFailure.{FarmFailure as SpecFailure};
+ghost use Rattle.farm_cli.specs.Failures.{EndsBy, IsFailure};
+ghost use Rattle.farm_cli.specs.Settings.{InRange};
 ghost use Rattle.farm_program.specs.Output.{IsOutput, Prints, PrintsBeginning};
 
 use crate::farm::run_script;
-use farm_input::{Ending, FarmFailure, Settings, lines_of, plan_of, text_read};
+use farm_cli::{Ending, FarmFailure, Settings, lines_of, plan_of, text_read};
 use script_text::{WriteFailed, divide_at_plan_end, write_texts};
 use std::alloc::Global;
 use std::io::{Read, Write};

@@ -4,13 +4,13 @@ ghost use Rattle.token_queue.specs.Passes.{AreItsPasses};
 ghost use Rattle.whole_farm.specs.Places.{places_of};
 ghost use Rattle.farm_service.specs.Closed.{AreDomainsOf, AreListed, AllMetFullTruly, AllAreRightlyAsked, EachMergeRuns};
 ghost use Rattle.plan_rules.specs.Users.{all_names};
-ghost use Rattle.farm_input.specs.Settings.{InRange};
+ghost use Rattle.farm_cli.specs.Settings.{InRange};
 ghost use Rattle.farm_program.specs.Closing.{AreAllListed};
 ghost use Rattle.farm_program.specs.Screens.{AreScreens};
 
 use crate::threads::{Passes, ThreadEnds, run_threads};
-use crate::users::UserEnd;
-use farm_input::Settings;
+use crate::users::UserOutcome;
+use farm_cli::Settings;
 use farm_service::{Closed, NoMemory, Opened, Service, UserPass, WorkerPass};
 use line_answers::laws::full_is_said_truly;
 use plan_checker::AcceptedPlan;
@@ -21,7 +21,7 @@ use std::thread::Threads;
 
 /// What the users leave, in their order.
 #[derive(Drop)]
-struct UsersEnd {
+struct UserOutcomes {
     /// Their passes.
     passes: Vec<UserPass>,
     /// Their output lines.
@@ -29,23 +29,23 @@ struct UsersEnd {
 }
 
 // Parts what the users leave into passes and output lines.
-fn divide_ends(alloc: Global, ends: Vec<UserEnd>) -> Result<UsersEnd, NoMemory>
+fn divide_ends(alloc: Global, ends: Vec<UserOutcome>) -> Result<UserOutcomes, NoMemory>
     ensures passes { IfOk result (λ left. left.passes.items ≡ map (λ end. end.pass) ends.items) }
     ensures screens { IfOk result (λ left. map string_bytes left.screens.items ≡ map (λ end. string_bytes end.screen) ends.items) }
 {
     let mut passes = Vec::with_capacity(alloc, ends.len())?;
     let mut screens = Vec::with_capacity(alloc, ends.len())?;
     for end in ends {
-        let UserEnd { pass, screen } = end;
+        let UserOutcome { pass, screen } = end;
         passes.push(pass)?;
         screens.push(screen)?;
     }
-    Ok(UsersEnd { passes, screens })
+    Ok(UserOutcomes { passes, screens })
 }
 
 /// A service that was closed, and what its users were shown.
 #[derive(Drop)]
-pub struct ScriptEnd {
+pub struct ScriptOutcome {
     /// What is left of the service.
     pub closed: Closed,
     /// The output lines of each user, in the order of the plan.
@@ -59,8 +59,8 @@ fn close<R: Wait>(
     alloc: Global,
     service: Service,
     passes: Vec<WorkerPass>,
-    left: UsersEnd,
-) -> Result<ScriptEnd, NoMemory>
+    left: UserOutcomes,
+) -> Result<ScriptOutcome, NoMemory>
     requires { AreItsPasses service.plan service.queue passes.items }
     ensures domains { IfOk result (λ ended. AreDomainsOf service.plan ended.closed.domains.items) }
     ensures runs { IfOk result (λ ended. EachMergeRuns (places_of service.plan) ended.closed.domains.items) }
@@ -69,12 +69,12 @@ fn close<R: Wait>(
     ensures asked { IfOk result (λ ended. AllAreRightlyAsked ended.closed.domains.items) }
     ensures screens { IfOk result (λ ended. ended.screens ≡ left.screens) }
 {
-    let UsersEnd {
+    let UserOutcomes {
         passes: users,
         screens,
     } = left;
     match service.close(rt, alloc, passes, users) {
-        Ok(closed) => Ok(ScriptEnd { closed, screens }),
+        Ok(closed) => Ok(ScriptOutcome { closed, screens }),
         Err(_) => Err(NoMemory),
     }
 }
@@ -88,7 +88,7 @@ pub fn run_script<R: Threads + Wait + Sync>(
     plan: AcceptedPlan,
     lines: &[ScriptLine],
     settings: Settings,
-) -> Result<ScriptEnd, NoMemory>
+) -> Result<ScriptOutcome, NoMemory>
     requires settings { InRange settings }
     requires lines { All (λ l. l.user < length (all_names plan)) lines.now }
     ensures domains { IfOk result (λ ended. AreDomainsOf plan ended.closed.domains.items) }

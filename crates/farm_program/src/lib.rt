@@ -5,11 +5,9 @@
 mod answering;
 mod farm;
 mod program;
-#[cfg(test)]
-mod tests;
 mod threads;
 mod users;
 
-pub use farm_input::{Settings, settings};
+pub use farm_cli::{Settings, settings};
 pub use program::run;
 pub use script_text::{HexFault, bytes_of};

@@ -1,14 +1,14 @@
 //! The program over its words and its streams.
 ghost use Rattle.std.specs.Prelude.{◌≡◌, ◌≢◌, ◌⊎◌, IfSome, map};
 ghost use Rattle.std.specs.Io.KnownBytes.{Keeps};
-ghost use Rattle.farm_input.specs.declared.failure.FarmFailure.{FarmFailure as SpecFailure};
-ghost use Rattle.farm_input.specs.Endings.{GiveSettings};
-ghost use Rattle.farm_input.specs.Failures.{IsFailure};
+ghost use Rattle.farm_cli.specs.declared.failure.FarmFailure.{FarmFailure as SpecFailure};
+ghost use Rattle.farm_cli.specs.Endings.{GiveSettings};
+ghost use Rattle.farm_cli.specs.Failures.{IsFailure};
 ghost use Rattle.farm_program.specs.Output.{Prints, PrintsBeginning};
 ghost use Rattle.farm_program.specs.Statuses.{EndsByStatus, WordsGiveStatus};
 
 use crate::answering::answer;
-use farm_input::{end_by_error, settings};
+use farm_cli::{end_by_error, settings};
 use std::alloc::Global;
 use std::convert::AsStr;
 use std::io::{Read, Write};

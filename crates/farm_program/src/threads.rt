@@ -3,11 +3,11 @@ ghost use Rattle.std.specs.Prelude.{◌≡◌, ◌<◌, All, IfOk, Ok, [], lengt
 ghost use Rattle.token_queue.specs.Passes.{AreItsPasses, AreOf, HoldNone};
 ghost use Rattle.farm_service.specs.Passes.{fresh_passes};
 ghost use Rattle.plan_rules.specs.Users.{all_names};
-ghost use Rattle.farm_input.specs.Settings.{InRange};
+ghost use Rattle.farm_cli.specs.Settings.{InRange};
 ghost use Rattle.farm_program.specs.Users.{AreEndsOf, HasAnswered, HaveAnswered, IsLeftBy, commands_at};
 
-use crate::users::{User, UserEnd, users_of};
-use farm_input::Settings;
+use crate::users::{User, UserOutcome, script_users};
+use farm_cli::Settings;
 use farm_service::{
     NoGate, NoMemory, Service, UNTIL_STOPPED, UserPass, Worked, WorkerPass, note_cores, work,
 };
@@ -25,11 +25,11 @@ struct UserPromise<'a> {
     user: Snapshot<User<'a>>,
 }
 
-impl<'a> Promise<Result<UserEnd, NoMemory>> for UserPromise<'a> {
+impl<'a> Promise<Result<UserOutcome, NoMemory>> for UserPromise<'a> {
     ghost kept_by = { λ p r. IfOk r (HasAnswered p.user.value) };
 }
 
-type UserThread<'a> = PromisedHandle<Result<UserEnd, NoMemory>, UserPromise<'a>>;
+type UserThread<'a> = PromisedHandle<Result<UserOutcome, NoMemory>, UserPromise<'a>>;
 
 // What the thread of a worker promises: unless it is out of memory, the worker's pass is what it was.
 #[derive(Drop)]
@@ -64,7 +64,7 @@ fn start_user<'s, E, R: Wait + Sync>(
         lines,
         quantum,
     } = user;
-    let run = move || -> Result<UserEnd, NoMemory>
+    let run = move || -> Result<UserOutcome, NoMemory>
         ensures { IfOk result (IsLeftBy service.entry.now.plan pass name.entry.now (commands_at lines.entry.now place)) }
     {
         let user = User {
@@ -178,7 +178,7 @@ fn join_users<R: Threads>(
     rt: &R,
     alloc: Global,
     threads: Vec<UserThread<'_>>,
-) -> Result<Vec<UserEnd>, NoMemory>
+) -> Result<Vec<UserOutcome>, NoMemory>
     ensures { IfOk result (λ ends. AreEndsOf (map (λ t. t.promise.user.value) threads.entry.items) ends.items) }
 {
     let returned = thread::join_promised(rt, threads)?;
@@ -212,7 +212,7 @@ pub struct ThreadEnds {
     /// The passes of the workers.
     pub workers: Vec<WorkerPass>,
     /// What the users leave, in the order of the plan.
-    pub users: Vec<UserEnd>,
+    pub users: Vec<UserOutcome>,
 }
 
 // Starts all threads, and waits for the end of the users. The workers go on, also after an error.
@@ -225,7 +225,7 @@ fn run_users<'s, E, R: Threads + Wait + Sync>(
     settings: Settings,
     passes: Vec<WorkerPass>,
     users: Vec<User<'s>>,
-) -> Result<(Vec<WorkerThread>, Vec<UserEnd>), NoMemory>
+) -> Result<(Vec<WorkerThread>, Vec<UserOutcome>), NoMemory>
     requires settings { InRange settings }
     requires quantum { All (λ u. u.quantum.steps ≡ settings.quantum) users.items }
     requires of { AreOf service.now.queue passes.items }
@@ -260,7 +260,7 @@ fn run_in<'s, E, R: Threads + Wait + Sync>(
 {
     let Passes { workers, users } = passes;
     let quantum = Quantum::of(settings.quantum);
-    let users = users_of(alloc, service, users, lines, quantum)?;
+    let users = script_users(alloc, service, users, lines, quantum)?;
     note_cores(rt, service);
     let run = run_users(scope, rt, alloc, service, settings, workers, users);
     service.stop();

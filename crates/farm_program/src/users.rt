@@ -29,7 +29,7 @@ pub struct User<'a> {
 
 /// What a user leaves whose lines were answered.
 #[derive(Drop)]
-pub struct UserEnd {
+pub struct UserOutcome {
     /// The user's pass.
     pub pass: UserPass,
     /// The user's output lines.
@@ -50,7 +50,7 @@ fn commands_at(alloc: Global, lines: &[ScriptLine], place: usize) -> Result<Vec<
 }
 
 /// The users of a service, in the order of its plan, each with their pass and their lines of a script.
-pub fn users_of<'a>(
+pub fn script_users<'a>(
     alloc: Global,
     service: &'a Service,
     passes: Vec<UserPass>,
@@ -83,7 +83,7 @@ impl User<'_> {
     /// # Errors
     ///
     /// `NoMemory` if there was no memory for all that the user did. The user stopped there.
-    pub fn run<R: Wait>(self, rt: &R, alloc: Global) -> Result<UserEnd, NoMemory>
+    pub fn run<R: Wait>(self, rt: &R, alloc: Global) -> Result<UserOutcome, NoMemory>
         ensures { IfOk result (HasAnswered self.entry) }
     {
         let User {
@@ -108,6 +108,6 @@ impl User<'_> {
             &mut screen,
         )?;
         let pass = session.end();
-        Ok(UserEnd { pass, screen })
+        Ok(UserOutcome { pass, screen })
     }
 }

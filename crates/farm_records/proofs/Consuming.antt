@@ -20,7 +20,7 @@ pub consumes_none : (known : Option (List ℕ)) → Consumes known known []
 consumes_none None = tt
 consumes_none (Some xs) = refl
 
--- if one piece is consumed, and then another, both are, one behind the other
+-- if one piece is consumed, and then another, both are, one after the other
 pub consumes_more : (text other_text third_text : Option (List ℕ)) (xs ys : List ℕ) → Consumes text other_text xs
     → Consumes other_text third_text ys
     → Consumes text third_text (xs ++ ys)
@@ -86,7 +86,7 @@ one_more other_text third_text fourth_text bytes d e domain so_far taken redone 
       (gains_more (record_history so_far.lines) (line_history redone.line) d e domain so_far.gains redone.gains);
 }
 
--- two pieces, behind which the bytes end, are all bytes
+-- two pieces, after which the bytes end, are all bytes
 pub consumed_all : (text other_text third_text : Option (List ℕ)) (xs ys : List ℕ) → Consumes text other_text xs
     → Consumes other_text third_text ys → IsAtEnd third_text
     → IsAllOf (xs ++ ys) text
@@ -96,7 +96,7 @@ consumed_all (Some us) (Some vs) None xs ys first next end = absurd next
 consumed_all (Some us) (Some vs) (Some ws) xs ys first next end =
     first ∙ ap (λ l. xs ++ l) (next ∙ (ap (λ l. ys ++ l) end ∙ append-nil ys))
 
--- one piece, behind which the bytes end, is all bytes
+-- one piece, after which the bytes end, is all bytes
 pub consumed_one : (text other_text : Option (List ℕ)) (xs : List ℕ) → Consumes text other_text xs
     → IsAtEnd other_text → IsAllOf xs text
 consumed_one None other_text xs first end = tt
@@ -115,7 +115,7 @@ no_line_feed (byte ∷ bytes) stops last =
     (All-more (λ b. b ≢ 10) (byte ∷ bytes) place byte within stops
     (λ feed. last (slice_get-get_or (byte ∷ bytes) place byte within ∙ ap Some feed)))
 
--- if the bytes end behind a piece without a line feed, the lines before it were done again, and the piece is torn
+-- if the bytes end after a piece without a line feed, the lines before it were done again, and the piece is torn
 pub at_the_end : (text other_text third_text : Option (List ℕ)) (bytes : List ℕ) (d e : DomainValue)
     → RedoneSoFar text other_text d e → Consumes other_text third_text bytes → IsAtEnd third_text
     → All (λ byte. byte ≢ 10) bytes

@@ -19,7 +19,7 @@ ran_history : (by : By) (node count : ℕ)
 ran_history by node zero = refl
 ran_history by node (suc more) = append-nil (replicate (suc more) (answered_step by node stepped.Ran))
 
--- and with a last line behind it for one Step more
+-- and with a last line after it for one Step more
 ended_history : (by : By) (node more : ℕ) (last : Stepped)
     → record_history (ran_lines by node more ++ record { times = 1; answered = answered_step by node last } ∷ [])
     ≡ steps by node (suc more) last
@@ -53,7 +53,7 @@ records_are_histories (Run by node count last ∷ entries) =
     ∙ (ap (λ h. h ++ record_history (lines_of entries)) (run_history by node count last)
     ∙ ap (λ h. steps by node count last ++ h) (records_are_histories entries))
 
--- a record can be cut behind each of its lines
+-- a record can be cut after each of its lines
 pub beginnings_are_records : BeginningsAreRecords
 beginnings_are_records lines count = record {
   text =

@@ -1,4 +1,4 @@
--- The text of Steps of which the last didn't run as the others: the contract of `write_run`.
+-- The text of Steps whose last didn't run as the others: the contract of `write_run`.
 use Rattle.std.specs.Prelude.{◌≡◌, ◌≢◌, ℕ, zero, suc, [], ◌∷◌, ◌++◌, ◌-◌}
 use Rattle.std.proofs.Common.{refl, ap, ◌∙◌, arith}
 use Rattle.std.proofs.lemmas.List.{append-nil}

@@ -1,4 +1,4 @@
--- Ranges are equal just if their comparison says so: the contract of `are_same_ranges`.
+-- Ranges are equal exactly if their comparison says so: the contract of `are_same_ranges`.
 use Rattle.std.proofs.Common.{◌≡◌, ℕ, Bool, ◌&&◌, Option, Some, None, refl, ap}
 use Rattle.std.specs.Bool.{Decides}
 use Rattle.std.specs.Option.{option_eq}
@@ -28,7 +28,7 @@ same_range other_range third_range =
       λ e. fields.1 (ap (λ (r : PortRange). r.first) e, ap (λ (r : PortRange). r.last) e),
     )
 
--- two ranges, each of which may be missing, are equal just if their comparison says so
+-- two ranges, which may be missing, are equal exactly if their comparison says so
 pub same_range_or_none : (other_range third_range : Option PortRange)
     → Decides (option_eq range_eq other_range third_range) (other_range ≡ third_range)
 same_range_or_none None None = (λ e. refl, λ e. refl)

@@ -14,14 +14,14 @@ use Rattle.farm_records.proofs.Consuming.{gains_more}
 one_more : (more : ℕ) → more + 1 ≡ suc more
 one_more more = omega arith
 
--- Steps of which the last ran all ran
+-- Steps whose last ran all ran
 ran_told : (node count : ℕ) → steps_told node count (Some Ran) ≡ replicate count (answered_step Farm node Ran)
 ran_told node zero = refl
 ran_told node (suc more) =
     replicate_more more (answered_step Farm node Ran)
     ∙ ap (λ n. replicate n (answered_step Farm node Ran)) (one_more more)
 
--- a domain that commits a ticket with so many Steps, of which the last ran, gains as many that ran
+-- a domain that commits a ticket with that many Steps, whose last ran, gains as many that ran
 pub committed_steps : (d e : DomainValue) (t : TicketValue) (node count : ℕ)
     → Commits d t e → t.number ≡ node → t.steps ≡ count → t.last ≡ Some Ran
     → GainsHistory (replicate count (answered_step Farm node Ran)) d e

@@ -2,7 +2,7 @@
 
 use domain_core::{By, Event};
 use event_text::{RepeatedRequest, read_request};
-use line_words::WordFault;
+use lab_words::WordFault;
 use std::alloc::Global;
 
 /// What is between a call and its answer.

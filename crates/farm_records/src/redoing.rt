@@ -13,7 +13,7 @@ use crate::node_loop::NodeLoop;
 use crate::writing::write_line;
 use crossbar::Outputs;
 use domain_core::{By, Committed, Domain, Event, Refusal, Reply, Ticket};
-use line_words::WordFault;
+use lab_words::WordFault;
 use std::alloc::Global;
 use t414_step::Stepped;
 

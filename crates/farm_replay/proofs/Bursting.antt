@@ -12,7 +12,7 @@ use Rattle.domain_core.specs.Ticket.{TicketValue, Bursts, fresh_ticket, most_ste
 use Rattle.farm_core.specs.PlainFarm.{node_there}
 use Rattle.farm_replay.specs.Answering.{IsAtRest}
 
--- just so many Steps more were done of a ticket
+-- exactly that many Steps more were done of a ticket
 pub record HasDone (k : ℕ) (t u : TicketValue) : Type 0 where
   pub node : IsAfter t.node k u.node
   pub steps : u.steps ≡ t.steps + k
@@ -71,7 +71,7 @@ more_done add answers a b k t u ticket some more is = subst (λ (n : ℕ). HasDo
   start = more.start ∙ some.start;
 })
 
--- the burst that did just these Steps, if they are all that it may do, or if nothing is left to be done
+-- the burst that did exactly these Steps, if they are all that it may do, or if nothing is left to be done
 pub as_burst : (k n : ℕ) (t u : TicketValue) → HasDone k t u → k ≤ n
     → (k < n → (is_quiet u.node ≡ true) ⊎ (u.steps ≡ most_steps)) → Bursts n t u
 as_burst k n t u done within ends = record {

@@ -17,7 +17,7 @@ one_more_entry journal before after index found entry within is at first more =
     (sym (get_or_from_slice_get journal index entry entry (sym is ∙ at)))
     ∙ sym (take_more journal index entry within)
 
--- so many as there are, are all
+-- as many as there are, are all
 pub all_entries : (found : Option (List Entry)) (journal entries : List Entry) (index : ℕ) → found ≡ Some journal
     → length journal ≤ index → entries ≡ take index journal → entries ≡ unwrap_or found []
 all_entries found journal entries index is end so =

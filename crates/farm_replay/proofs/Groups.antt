@@ -14,7 +14,7 @@ texts_of_more groups g =
     flat_map-append (λ (x : Group). replicate x.count x.text) groups (g ∷ [])
     ∙ ap (λ (xs : List (List ℕ)). grouped_texts groups ++ xs) (append-nil (replicate g.count g.text))
 
--- the last group has so many more of its text
+-- the last group has that many more of its text
 apart_grown : (groups : List Group) (count more : ℕ) (text : List ℕ)
     → AreGroups (groups ++ record { count = count; text = text } ∷ [])
     → AreGroups (groups ++ record { count = count + more; text = text } ∷ [])
@@ -37,7 +37,7 @@ many_more_alike texts l more so = record {
   written = so.written;
 }
 
--- a group of one other text behind the last
+-- a group of one other text after the last
 apart_more : (groups : List Group) (g group : Group) → AreGroups (groups ++ g ∷ [])
     → g.text ≢ group.text → 0 < group.count
     → AreGroups (groups ++ g ∷ [] ++ group ∷ [])
@@ -65,7 +65,7 @@ many_others texts l kept so ne some text = record {
     written_of : List Group → List ℕ
     written_of groups = flat_map (λ g. group_text g ++ codes ", ") groups
 
--- commas behind all but the last are commas between all
+-- commas after all but the last are commas between all
 commas : (groups : List Group) (g : Group)
     → flat_map (λ h. codes ", " ++ group_text h) (groups ++ g ∷ [])
     ≡ codes ", " ++ (flat_map (λ h. group_text h ++ codes ", ") groups ++ group_text g)
@@ -89,7 +89,7 @@ joined (h ∷ groups) g =
     ∙ append_assoc (group_text h) (codes ", ") (flat_map (λ x. group_text x ++ codes ", ") groups ++ group_text g)
     ∙ ap (λ (xs : List ℕ). group_text h ++ xs) (sym (commas groups g))
 
--- texts of which the last stand as a group behind the written ones are a listing once the group is written
+-- texts whose last are a group after the written ones are a listing once the group is written
 pub listing_of : (texts : List (List ℕ)) (l : KeptList) (line : List ℕ)
     → IsBehind texts l → line ≡ l.text ++ group_text (last_group l)
     → IsListing texts line
@@ -107,7 +107,7 @@ behind : (texts : List (List ℕ)) (l : KeptList) (count : ℕ) → count ≢ 0 
 behind texts l zero some so = absurd (some refl)
 behind texts l (suc n) some so = so
 
--- a list that is behind has a last group
+-- a list with a group of fewer texts has a last group
 holds : (texts : List (List ℕ)) (l : KeptList) (count : ℕ) → count ≢ 0 → IsBehind texts l → HoldsTextsAt texts l count
 holds texts l zero some so = absurd (some refl)
 holds texts l (suc n) some so = so

@@ -247,7 +247,7 @@ committed_run law domain old new t (Some d) (Some e) is there here committed =
     gained_run law domain old new d e (ticket.steps_told t.number t.steps t.last) is there here
     (committed.done refl).journal
 
--- so many Steps as calls, and what they are told
+-- that many Steps as calls, and what they are answered
 pub run_calls : (domain node k : ℕ) (last : Stepped)
     → in_domain domain (calls_of (journal.steps ByTheFarm node (suc k) last)) ≡ step_calls domain node (suc k)
 run_calls domain node zero last = refl
@@ -261,7 +261,8 @@ run_replies node zero last = refl
 run_replies node (suc k) last =
     ap (λ (rest : List Answer). let a : Answer = Ok (reply.Stepped Ran) in a ∷ rest) (run_replies node k last)
 
--- a committed ticket's Steps are a run of the whole farm: so many Steps of its node, of which the last was told so
+-- a committed ticket's Steps are a run of the whole farm: that many Steps of its node, and the last was
+-- answered so
 pub steps_run : EachCallIsPrivate
     → (domain node before : ℕ) (last : Stepped) (old new : List DomainValue) (t : TicketValue) → Changes domain old new
     → IsCommittedAt t (Ok Done) (slice_get old domain) (slice_get new domain)
@@ -284,7 +285,7 @@ steps_run law domain node before last old new t is committed number steps answer
     replies
     (committed_run law domain old new t (slice_get old domain) (slice_get new domain) is refl refl committed))
 
--- no Steps are told as none
+-- no Steps are answered as none
 pub none_told : (node count : ℕ) (last : Option Stepped) → count ≡ 0 → ticket.steps_told node count last ≡ []
 none_told node count None none = refl
 none_told node count (Some last) none = ap (λ (n : ℕ). journal.steps ByTheFarm node n last) none
@@ -319,7 +320,7 @@ unrecorded-by domain call told old new (Some d) (Some e) is there here called sa
     new_states domain old new d e is.others there here ∙ ap (slice_set (all_states old) domain) (sym on.left)
     ∙ set_itself (all_states old) domain (state_of d) (state_at old domain d there)
 
--- a call of which the domain records nothing leaves what the domains stand for
+-- a call that the domain doesn't record leaves what the domains stand for
 pub unrecorded_stays : (domain : ℕ) (call : Call) (told : Result Reply Refusal) (old new : List DomainValue)
     → Changes domain old new
     → IsCalledAt call told (slice_get old domain) (slice_get new domain)

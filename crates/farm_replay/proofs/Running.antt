@@ -238,7 +238,7 @@ answers_call call old new text l kept shows more = record {
   gains = λ earlier has. one_more_answer earlier shows.answer text l kept has shows.words more;
 }
 
--- Steps that are done at once
+-- Steps that are done together
 pub answers_steps : (domain node before : ℕ) (last : Stepped) (ran text : List ℕ) (old new : List DomainValue)
     (kept l other_kept : KeptList)
     → HaveRun old new (step_calls domain node (before + 1)) (steps_answers before last)

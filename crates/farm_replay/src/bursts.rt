@@ -8,7 +8,7 @@ use bootstrap::steps_add_up;
 use domain_core::{Committed, NoMemory, Refusal, Ticket};
 use farm_core::PlainFarm;
 use std::alloc::Global;
-use step_meter::{StepMeter, StepsEnd};
+use step_meter::{OutOfSteps, StepMeter};
 use t414_step::Stepped;
 use whole_farm::laws::each_call_is_private;
 
@@ -26,12 +26,12 @@ pub struct DoneSteps {
 ///
 /// # Errors
 ///
-/// `StepsEnd` if more are wanted than the meter allows. Those before are done.
+/// `OutOfSteps` if more are wanted than the meter allows. Those before are done.
 pub fn run_ticket<M: StepMeter>(
     ticket: &mut Ticket,
     most: u64,
     meter: &mut M,
-) -> Result<(), StepsEnd>
+) -> Result<(), OutOfSteps>
     ensures steps { OnOk result (Bursts most ticket.old ticket.new) }
     ensures number { ticket.new.number ≡ ticket.old.number }
     ensures most { ticket.new.steps ≤ ticket.old.steps + most }

@@ -2,7 +2,7 @@
 
 use domain_core::Refusal;
 use std::alloc::AllocError;
-use step_meter::StepsEnd;
+use step_meter::OutOfSteps;
 use thiserror::Error;
 
 /// Why a domain doesn't do all that is asked of it.
@@ -11,7 +11,7 @@ pub enum AskFault {
     /// The farm refuses it.
     Refused(Refusal),
     /// More Steps are wanted than may be done.
-    Steps(StepsEnd),
+    Steps(OutOfSteps),
 }
 
 impl From<Refusal> for AskFault {
@@ -20,8 +20,8 @@ impl From<Refusal> for AskFault {
     }
 }
 
-impl From<StepsEnd> for AskFault {
-    fn from(end: StepsEnd) -> AskFault {
+impl From<OutOfSteps> for AskFault {
+    fn from(end: OutOfSteps) -> AskFault {
         AskFault::Steps(end)
     }
 }
@@ -31,7 +31,7 @@ impl From<StepsEnd> for AskFault {
 pub enum FarmStop {
     /// More Steps are wanted than may be done.
     #[error("{0}")]
-    Steps(StepsEnd),
+    Steps(OutOfSteps),
     #[error("memory")]
     Memory(#[from(alloc)] AllocError),
 }

@@ -24,7 +24,7 @@ after_journal law d call answer meant is =
     subst (IsAnswer d.machine.part call) (sym is)
     (law d.machine.part (expanded d.journal) (state_of d) call meant.history)
 
--- a domain that stands at its number in a plan answers as the plan's domain does, unless there is no memory
+-- a domain that is at its number in a plan answers as the plan's domain does, unless there is no memory
 pub asked : NextIsAnAnswer
     → (d : DomainValue) (plan : List DomainData) (number : ℕ) (call : Call) (answer : Answer) → Fits plan number d
     → IsMeant d → UnlessNoMemory answer (answer ≡ (next d.machine.part (state_of d) call).1)

@@ -1,5 +1,5 @@
 -- Domains that are closed one after another, and what their journals come to: the clauses `domains` and `runs` of
--- `close_domains`. At the end the words of one domain: the clause `words` of `words_of`.
+-- `close_domains`. At the end the words of one domain: the clause `words` of `output_words`.
 use Rattle.std.proofs.Common.{◌≡◌, ℕ, zero, suc, ◌+◌, List, [], ◌∷◌, ◌++◌, length, take, map, Option}
 use Rattle.std.proofs.Common.{Some, None, slice_get, All, refl, sym, ap, ◌∙◌, subst, arith, option_map}
 use Rattle.std.proofs.lemmas.List.{take_more, map-append, length-append, take_all}
@@ -105,7 +105,7 @@ ends_more plan i closed d c before count end =
 
 -- ---- what they come to
 
--- what stands at a place of what was made of two lists alike
+-- what is at a place of what was made of two lists alike
 same_at : {X Y Z : Type 0} (f : X → Z) (g : Y → Z) (xs : List X) (ys : List Y) (i : ℕ) (x : X) (y : Y)
     → map f xs ≡ map g ys → slice_get xs i ≡ Some x → slice_get ys i ≡ Some y
     → f x ≡ g y

@@ -1,4 +1,4 @@
--- Domains that stand at their places, and a user's commands that are listed entry by entry: the clause `domains` of
+-- Domains that are at their places, and a user's commands that are listed entry by entry: the clause `domains` of
 -- `open_domains`, and the contract of `list_commands`.
 use Rattle.std.proofs.Common.{◌≡◌, ℕ, zero, suc, ◌+◌, List, [], ◌∷◌, ◌++◌, length}
 use Rattle.std.proofs.Common.{◌<◌, arith, get_or, inl, inr, take, Some, slice_get, sym, ap, ◌∙◌, subst, append_assoc}
@@ -11,7 +11,7 @@ use Rattle.domain_core.specs.declared.journal.Entry.{Entry}
 use Rattle.domain_core.specs.Domain.{DomainValue, Fits}
 use Rattle.domain_core.specs.Journal.{expanded}
 use Rattle.domain_core.specs.Laws.{JournalsAddUp}
-use Rattle.domain_core.specs.declared.event.Told.{Told}
+use Rattle.domain_core.specs.declared.event.AnsweredCommand.{AnsweredCommand}
 use Rattle.farm_service.specs.Commands.{command_from, commands_of}
 use Rattle.farm_service.specs.Histories.{AreInPlaces}
 
@@ -33,7 +33,7 @@ pub in_places_more : (plan : List DomainData) (domains : List DomainValue) (numb
 in_places_more plan domains number d each is fits =
     snoc_each (Fits plan) domains d each (subst (λ (n : ℕ). Fits plan n d) is fits)
 
--- a domain that fits the next place stands there, if those before it fit theirs
+-- a domain that fits the next place is there, if those before it fit theirs
 pub fits_more : (plan : List DomainData) (domains : List DomainValue) (i : ℕ) (domain : DomainValue)
     → ((n : ℕ) (d : DomainValue) → n < i → slice_get domains n ≡ Some d → Fits plan n d)
     → domain ≡ get_or domains i domain → Fits plan i domain
@@ -63,11 +63,11 @@ commands_more law user journal i entry there =
 
 -- a list that goes on with a user's commands in the first entries, and in the next, goes on with one entry more
 pub told_more : JournalsAddUp
-    → (user : ℕ) (journal : List Entry) (first told now : List Told) (i : ℕ) (entry : Entry)
+    → (user : ℕ) (journal : List Entry) (first told now : List AnsweredCommand) (i : ℕ) (entry : Entry)
     → slice_get journal i ≡ Some entry → told ≡ first ++ commands_of user (expanded (take i journal))
     → now ≡ told ++ commands_of user (expanded (entry ∷ []))
     → now ≡ first ++ commands_of user (expanded (take (i + 1) journal))
 told_more law user journal first told now i entry there so_far next =
-    next ∙ ap (λ (xs : List Told). xs ++ commands_of user (expanded (entry ∷ []))) so_far
+    next ∙ ap (λ (xs : List AnsweredCommand). xs ++ commands_of user (expanded (entry ∷ []))) so_far
     ∙ append_assoc first (commands_of user (expanded (take i journal))) (commands_of user (expanded (entry ∷ [])))
-    ∙ ap (λ (xs : List Told). first ++ xs) (sym (commands_more law user journal i entry there))
+    ∙ ap (λ (xs : List AnsweredCommand). first ++ xs) (sym (commands_more law user journal i entry there))

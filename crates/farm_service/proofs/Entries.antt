@@ -16,7 +16,7 @@ expanded_more : JournalsAddUp → (journal : List Entry) (i : ℕ) (entry : Entr
 expanded_more law journal i entry within =
     ap expanded (take_more journal i entry within) ∙ law (take i journal) (get_or journal i entry ∷ [])
 
--- one entry more of which this is right
+-- one entry more that is right so
 pub more_right : JournalsAddUp → (journal : List Entry) (i : ℕ) (entry : Entry) → i < length journal
     → AreRightlyAsked (expanded (take i journal)) → AreRightlyAsked (expanded (get_or journal i entry ∷ []))
     → AreRightlyAsked (expanded (take (i + 1) journal))

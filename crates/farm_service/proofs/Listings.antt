@@ -13,10 +13,10 @@ use Rattle.domain_core.specs.declared.journal.Entry.{Entry}
 use Rattle.domain_core.specs.declared.journal.Entry.TheVariants.{Run}
 use Rattle.domain_core.specs.Journal.{AnsweredCall, expanded, answered_step}
 use Rattle.domain_core.specs.Laws.{JournalsAddUp}
-use Rattle.domain_core.specs.declared.event.Told.{Told}
+use Rattle.domain_core.specs.declared.event.AnsweredCommand.{AnsweredCommand}
 use Rattle.farm_service.specs.Commands.{command_from, commands_of}
 
-and_none : (b : Bool) (told : Told) → cond (b && false) (Some told) None ≡ None
+and_none : (b : Bool) (told : AnsweredCommand) → cond (b && false) (Some told) None ≡ None
 and_none true told = refl
 and_none false told = refl
 
@@ -42,7 +42,8 @@ no_steps user by node (suc count) last =
 
 -- a list that begins with the commands of the first entries, and then has those of the next, has one entry more
 pub more_listed : JournalsAddUp
-    → (user : ℕ) (journal : List Entry) (told : List Told) (i listed n : ℕ) (entry : Entry) → i < length journal
+    → (user : ℕ) (journal : List Entry) (told : List AnsweredCommand) (i listed n : ℕ) (entry : Entry)
+    → i < length journal
     → commands_of user (expanded (take i journal)) ≡ take listed told
     → take n told ≡ take listed told ++ commands_of user (expanded (get_or journal i entry ∷ []))
     → commands_of user (expanded (take (i + 1) journal)) ≡ take n told
@@ -50,14 +51,15 @@ more_listed law user journal told i listed n entry within so_far next =
     ap (λ (xs : List Entry). commands_of user (expanded xs)) (take_more journal i entry within)
     ∙ ap (commands_of user) (law (take i journal) (get_or journal i entry ∷ []))
     ∙ filter_map-append (command_from user) (expanded (take i journal)) (expanded (get_or journal i entry ∷ []))
-    ∙ ap (λ (xs : List Told). xs ++ commands_of user (expanded (get_or journal i entry ∷ []))) so_far
+    ∙ ap (λ (xs : List AnsweredCommand). xs ++ commands_of user (expanded (get_or journal i entry ∷ []))) so_far
     ∙ sym next
 
 -- if the next of a list is the one command that an entry has, the list goes on with that entry's commands
-pub next_told : (user : ℕ) (entry : Entry) (told : List Told) (listed : ℕ) (command other_told : Told)
+pub next_told : (user : ℕ) (entry : Entry) (told : List AnsweredCommand) (listed : ℕ)
+    (command other_told : AnsweredCommand)
     → listed < length told → get_or told listed other_told ≡ command
     → commands_of user (expanded (entry ∷ [])) ≡ option_to_list (Some command)
     → take (listed + 1) told ≡ take listed told ++ commands_of user (expanded (entry ∷ []))
 next_told user entry told listed command other_told within is has =
-    take_more told listed other_told within ∙ ap (λ (x : Told). take listed told ++ x ∷ []) is
-    ∙ ap (λ (xs : List Told). take listed told ++ xs) (sym has)
+    take_more told listed other_told within ∙ ap (λ (x : AnsweredCommand). take listed told ++ x ∷ []) is
+    ∙ ap (λ (xs : List AnsweredCommand). take listed told ++ xs) (sym has)

@@ -9,7 +9,7 @@ use Rattle.plan_rules.specs.declared.fault.PlanFault.TheVariants.{UserCount}
 use Rattle.farm_service.specs.Passes.{SessionValue}
 use Rattle.farm_service.specs.Restarts.{AreAllOf, AreAllOfOne}
 
--- the list with its first so many members changed
+-- the list with its first members changed
 abbrev pub changed_to : {A : Type 0} → (A → A) → ℕ → List A → List A
 changed_to f zero xs = xs
 changed_to f (suc i) [] = []
@@ -26,7 +26,7 @@ changed_one f (suc i) [] x there = refl
 changed_one f zero (y ∷ xs) x there = ap (λ (z : _). f z ∷ xs) there
 changed_one f (suc i) (y ∷ xs) x there = ap (λ (rest : List _). f y ∷ rest) (changed_one f i xs x there)
 
--- if the first so many members are changed, and then the next, one more is changed
+-- if the first members are changed, and then the next, one more is changed
 pub changed_more : {A : Type 0} (f : A → A) (i : ℕ) (xs items : List A) (x y : A)
     → items ≡ changed_to f i xs → x ≡ get_or items i x → y ≡ f x
     → set items i y ≡ changed_to f (i + 1) xs
@@ -41,7 +41,7 @@ changed_whole f i xs items are all = are ∙ ap (λ (k : ℕ). changed_to f k xs
 
 -- ---- all users of a domain
 
--- a domain of which these are all users is one of the plan
+-- a domain that has exactly these users is one of the plan
 pub all_within : (plan : List DomainData) (number : ℕ) (sessions : List SessionValue) → AreAllOf plan number sessions
     → number < length plan
 all_within plan number sessions all = slice_get_within plan number all.domain all.there

@@ -15,7 +15,7 @@ same_items (x ∷ xs) (y ∷ ys) each count =
     λ k. same_Some _ _ (each 0 (omega arith)) k
     ∷ same_items xs ys (λ i less. each (suc i) (omega arith)) (omega arith) k
 
--- a slice of all passes of a list, each of which is left as it was, leaves the list
+-- a slice of all passes of a list, all left as they were, leaves the list
 pub written_back : (len : ℕ) (old lent new : List WorkerPassValue)
     → lent ≡ old → length lent ≡ len → ((i : ℕ) → i < length lent → slice_get new i ≡ slice_get lent i)
     → length new ≡ length lent

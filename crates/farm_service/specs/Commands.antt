@@ -4,14 +4,14 @@ use Rattle.domain_core.specs.declared.event.By.{By}
 use Rattle.domain_core.specs.declared.event.By.TheVariants.{User, Farm}
 use Rattle.domain_core.specs.Journal.{AnsweredCall}
 use Rattle.domain_core.specs.Commands.{is_command, is_own}
-use Rattle.domain_core.specs.declared.event.Told.{Told}
+use Rattle.domain_core.specs.declared.event.AnsweredCommand.{AnsweredCommand}
 
 -- an answered event, if it is a command of this user
-abbrev pub command_from : ℕ → AnsweredCall → Option Told
+abbrev pub command_from : ℕ → AnsweredCall → Option AnsweredCommand
 command_from user a = cond (is_own user a) (Some (record { event = a.call.event; reply = a.reply })) None
 
 -- a user's commands in a history, each with its reply, in their order
-abbrev pub commands_of : ℕ → List AnsweredCall → List Told
+abbrev pub commands_of : ℕ → List AnsweredCall → List AnsweredCommand
 commands_of user history = filter_map (command_from user) history
 
 -- whether a user asks, and not the farm itself

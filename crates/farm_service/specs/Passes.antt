@@ -7,7 +7,7 @@ use Rattle.domain_core.specs.declared.event.Refusal.{Refusal}
 use Rattle.domain_core.specs.declared.event.Refusal.TheVariants.{NoSuch, JournalFull, NoMemory}
 use Rattle.domain_core.specs.declared.event.Reply.{Reply}
 use Rattle.domain_core.specs.PrivateFarm.{Answer, Call}
-use Rattle.domain_core.specs.declared.event.Told.{Told}
+use Rattle.domain_core.specs.declared.event.AnsweredCommand.{AnsweredCommand}
 
 -- whose it is, by the number of the user's domain in the plan and the user's number there; what the user asked and was
 -- answered, in the user's order; whether the journal of the domain was full when the user asked; whether it was nearly
@@ -15,7 +15,7 @@ use Rattle.domain_core.specs.declared.event.Told.{Told}
 pub record UserPassValue : Type 0 where
   pub domain : ℕ
   pub user : ℕ
-  pub told : List Told
+  pub told : List AnsweredCommand
   pub met_full : Bool
   pub met_nearly_full : Bool
   pub reserved : ℕ

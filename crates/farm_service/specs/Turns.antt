@@ -7,7 +7,7 @@ use Rattle.domain_core.specs.Machine.{is_recorded}
 use Rattle.domain_core.specs.MachineValue.{machine_of}
 use Rattle.domain_core.specs.Domain.{DomainValue, IsPastLimit}
 use Rattle.domain_core.specs.Ticket.{TicketValue, IsCurrent, Commits, fresh_ticket}
-use Rattle.farm_service.specs.declared.halves.TurnEnd.{TurnEnd}
+use Rattle.farm_service.specs.declared.halves.TurnOutcome.{TurnOutcome}
 use Rattle.farm_service.specs.declared.halves.Turned.{Turned}
 use Rattle.farm_service.specs.declared.halves.Turned.TheVariants.{BurstRecorded, Stale, NoStep}
 use Rattle.farm_service.specs.PortMoves.{HaveMoved}
@@ -40,7 +40,7 @@ ThenMoves home (Ok turned) moved e = HaveMoved home moved e
 ThenMoves home (Err refusal) moved e = (moved ≡ Ok false) × (e ≡ home)
 
 -- the end of a turn: first the one and then the other
-pub record EndsTurn (checked_out : Bool) (d : DomainValue) (slot : Option TicketValue) (ended : TurnEnd)
+pub record EndsTurn (checked_out : Bool) (d : DomainValue) (slot : Option TicketValue) (ended : TurnOutcome)
     (e : DomainValue) (left : Option TicketValue) : Type 0 where
   pub home : DomainValue
   pub first : CommitsSlot checked_out d slot ended.turned home left

@@ -6,7 +6,7 @@ ghost use Rattle.farm_service.specs.Commands.{AreRightlyAsked, is_any_user};
 ghost use Rattle.farm_service.specs.Closed.{AllAreRightlyAsked};
 
 use crate::closed::ClosedDomain;
-use crate::told::is_command;
+use crate::commands::is_command;
 use crate::waiting::block_forever;
 use domain_core::laws::journals_add_up;
 use domain_core::{By, Entry, Event, Journal};

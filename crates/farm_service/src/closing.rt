@@ -59,7 +59,7 @@ impl ClosingMemory {
 }
 
 // The words of a domain.
-fn words_of(domain: &mut SeatedDomain, room: WordMemory) -> Vec<Word>
+fn output_words(domain: &mut SeatedDomain, room: WordMemory) -> Vec<Word>
     ensures words { result.items ≡ domain.old.machine.switch.words }
     ensures unchanged { domain.new ≡ domain.old }
 {
@@ -85,7 +85,7 @@ fn close_domain<R: Wait>(
     await_fitting(rt, &domain, plan, number);
     // A domain is what its journal says.
     domain.meant_law();
-    let words = words_of(&mut domain, room);
+    let words = output_words(&mut domain, room);
     ClosedDomain {
         domain: number,
         journal: domain.into_journal(),

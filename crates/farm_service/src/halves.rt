@@ -24,7 +24,7 @@ pub(crate) enum Turned {
 
 /// What became of a turn: of its node, and whether a packet moved after it. If the node's Steps were refused none did.
 #[derive(Clone, Copy)]
-pub(crate) struct TurnEnd {
+pub(crate) struct TurnOutcome {
     pub(crate) turned: Result<Turned, Refusal>,
     pub(crate) moved: Result<bool, Refusal>,
 }
@@ -78,7 +78,7 @@ pub(crate) fn end_turn(
     domain: &mut SeatedDomain,
     checked_out: bool,
     slot: &mut Option<Ticket>,
-) -> TurnEnd
+) -> TurnOutcome
     ensures { EndsTurn checked_out domain.old slot.old result domain.new slot.new }
 {
     let turned = commit_slot(alloc, domain, checked_out, slot);
@@ -87,5 +87,5 @@ pub(crate) fn end_turn(
     } else {
         Ok(false)
     };
-    TurnEnd { turned, moved }
+    TurnOutcome { turned, moved }
 }

@@ -8,13 +8,13 @@ ghost use Rattle.farm_service.specs.Histories.{AreDomainsIn, with_history};
 ghost use Rattle.farm_service.specs.Rooms.{reserved_entries};
 
 use crate::NoMemory;
+use crate::commands::command_from;
 use crate::opening::open_domains;
 use crate::pass::UserPass;
 use crate::room::Room;
 use crate::service::SeatedDomain;
-use crate::told::command_from;
 use domain_core::laws::journals_add_up;
-use domain_core::{Entry, Journal, Told};
+use domain_core::{AnsweredCommand, Entry, Journal};
 use plan_rules::AcceptedPlan;
 use std::alloc::Global;
 use switch_table::{OperatorSeat, SwitchTable};
@@ -105,7 +105,7 @@ fn are_domains_in(plan: &AcceptedPlan, domains: &[SeatedDomain]) -> bool
 }
 
 // Adds what an entry has of a user's commands to the user's list.
-fn list_command(entry: &Entry, user: u8, told: &mut Vec<Told>) -> Result<(), NoMemory>
+fn list_command(entry: &Entry, user: u8, told: &mut Vec<AnsweredCommand>) -> Result<(), NoMemory>
     ensures listed { IfOk result (λ _. told.new.items ≡ told.old.items ++ commands_of user (expanded (entry.now ∷ []))) }
     ensures capacity { vec_capacity told.old ≤ vec_capacity told.new }
 {
@@ -116,7 +116,11 @@ fn list_command(entry: &Entry, user: u8, told: &mut Vec<Told>) -> Result<(), NoM
 }
 
 // Adds a user's commands in a journal to the user's list.
-fn list_commands(journal: &Journal, user: u8, told: &mut Vec<Told>) -> Result<(), NoMemory>
+fn list_commands(
+    journal: &Journal,
+    user: u8,
+    told: &mut Vec<AnsweredCommand>,
+) -> Result<(), NoMemory>
     ensures listed { IfOk result (λ _. told.new.items ≡ told.old.items ++ commands_of user (expanded journal.now.entries)) }
     ensures capacity { vec_capacity told.old ≤ vec_capacity told.new }
 {

@@ -5,6 +5,7 @@
 mod askers;
 mod closed;
 mod closing;
+mod commands;
 mod copying;
 mod halves;
 mod histories;
@@ -21,12 +22,12 @@ mod service;
 mod session;
 mod status;
 mod threads;
-mod told;
 mod turns;
 mod waiting;
 mod worker;
 
 pub use closed::{Closed, ClosedDomain, NotClosed};
+pub use commands::is_command;
 pub use domain_core::{Committed, Refusal, Ticket};
 pub use histories::Histories;
 pub use opening::Opened;
@@ -39,5 +40,4 @@ pub use std::alloc::AllocError as NoMemory;
 pub use switch_table::OperatorSeat;
 pub use threads::{note_cores, run_users_and_workers, work_all};
 pub use token_queue::{Token, WorkerPass};
-pub use told::is_command;
 pub use worker::{Gate, NoGate, UNTIL_STOPPED, Worked, work};

@@ -72,7 +72,7 @@ fn is_near(journal: &Journal, limit: u64) -> bool
     }
 }
 
-// Whether the domain of this number is closed with so many events that the plan's limit for it is near.
+// Whether the domain of this number has nearly as many events as the plan's limit for it.
 fn is_nearly_full(plan: &AcceptedPlan, closed: &[ClosedDomain], domain: u8) -> bool
     ensures { result ≡ true → IsNearlyFull plan.now closed.now domain }
 {

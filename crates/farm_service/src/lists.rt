@@ -5,22 +5,22 @@ ghost use Rattle.farm_service.specs.Commands.{commands_of};
 ghost use Rattle.farm_service.specs.Closed.{IsListed, AreListed};
 
 use crate::closed::ClosedDomain;
+use crate::commands::command_from;
 use crate::pass::UserPass;
-use crate::told::command_from;
 use crate::waiting::block_forever;
 use domain_core::laws::journals_add_up;
-use domain_core::{Entry, Journal, Told};
+use domain_core::{AnsweredCommand, Entry, Journal};
 use std::sync::Wait;
 
 // Whether a listed command is this one, with this reply.
-fn is_same(told: &Told, command: &Told) -> bool
+fn is_same(told: &AnsweredCommand, command: &AnsweredCommand) -> bool
     ensures { result ≡ true → told.now ≡ command.now }
 {
     told.event == command.event && told.reply == command.reply
 }
 
 // How many of a list are a user's commands up to an entry, if what it has of them is the next.
-fn listed_after(entry: &Entry, user: u8, told: &[Told], listed: usize) -> Option<usize>
+fn listed_after(entry: &Entry, user: u8, told: &[AnsweredCommand], listed: usize) -> Option<usize>
     requires { listed ≤ length told.now }
     ensures listed { IfSome result (λ n. take n told.now ≡ take listed told.now ++ commands_of user (expanded (entry.now ∷ []))) }
     ensures within { IfSome result (λ n. n ≤ length told.now) }
@@ -38,7 +38,7 @@ fn listed_after(entry: &Entry, user: u8, told: &[Told], listed: usize) -> Option
 }
 
 // Whether a user's commands in a journal are those of a list.
-fn lists(journal: &Journal, user: u8, told: &[Told]) -> bool
+fn lists(journal: &Journal, user: u8, told: &[AnsweredCommand]) -> bool
     ensures { result ≡ true → commands_of user (expanded journal.now.entries) ≡ told.now }
 {
     // What is appended to a journal comes after what it stands for.

@@ -45,13 +45,13 @@ pub(crate) fn move_ports(alloc: Global, domain: &mut SeatedDomain) -> Result<boo
 /// What became of the Moves that end a round: whether a packet went, and whether no Step and no Move would be recorded then,
 /// the limit aside.
 #[derive(Clone, Copy)]
-pub(crate) struct MovesEnd {
+pub(crate) struct MovesOutcome {
     pub(crate) moved: bool,
     pub(crate) is_quiet: bool,
 }
 
 /// Ends a round: all ports of a domain move, in order, and then it is asked whether it is quiet.
-pub(crate) fn end_round(alloc: Global, domain: &mut SeatedDomain) -> Result<MovesEnd, Refusal>
+pub(crate) fn end_round(alloc: Global, domain: &mut SeatedDomain) -> Result<MovesOutcome, Refusal>
     ensures moved { IfOk result (λ e. HaveMoved domain.old (Ok e.moved) domain.new) }
     ensures quiet { IfOk result (λ e. IsTrue e.is_quiet ↔ IsQuiet domain.new.machine.part (machine_of domain.new.machine)) }
     ensures refused { IfErr result (λ refusal. HaveMoved domain.old (Err refusal) domain.new) }
@@ -59,5 +59,5 @@ pub(crate) fn end_round(alloc: Global, domain: &mut SeatedDomain) -> Result<Move
 {
     let moved = move_ports(alloc, domain)?;
     let is_quiet = domain.quiet();
-    Ok(MovesEnd { moved, is_quiet })
+    Ok(MovesOutcome { moved, is_quiet })
 }

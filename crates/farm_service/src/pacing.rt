@@ -27,7 +27,7 @@ impl Service {
                 break;
             }
             allowance.allow_more(events);
-            self.schedule().rest().wake_all();
+            self.schedule().sleep_board().wake_all();
         }
     }
 

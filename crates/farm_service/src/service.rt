@@ -235,7 +235,7 @@ impl Service {
     /// Makes workers end at their next turn, for good, and wakes those that sleep. It waits for nobody.
     pub fn stop(&self) {
         self.stopped.store(true, Ordering::SeqCst);
-        self.schedule.rest().wake_all();
+        self.schedule.sleep_board().wake_all();
     }
 
     /// How much memory each domain may take for its journal and for the lists of its users.
@@ -440,7 +440,7 @@ impl Service {
 
     // Tells the workers that there may be work in a domain.
     pub(crate) fn note_call(&self, domain: u8) {
-        self.schedule.rest().note_call(domain);
+        self.schedule.sleep_board().note_call(domain);
     }
 
     // Which bursts are to be done next.

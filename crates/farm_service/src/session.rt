@@ -9,7 +9,7 @@ ghost use Rattle.farm_service.specs.Restarts.{begun_anew};
 
 use crate::pass::UserPass;
 use crate::service::Service;
-use domain_core::{By, Event, Refusal, Reply, Told};
+use domain_core::{AnsweredCommand, By, Event, Refusal, Reply};
 use std::alloc::Global;
 use std::marker::Model;
 use std::sync::Wait;
@@ -71,7 +71,7 @@ impl Session<'_> {
     }
 
     /// What the user asked and was answered so far, in the user's order.
-    pub fn commands(&self) -> &[Told]
+    pub fn commands(&self) -> &[AnsweredCommand]
         ensures { result.now ≡ self.now.pass.told }
     {
         self.pass.commands()
@@ -104,7 +104,7 @@ impl Session<'_> {
             .service
             .ask_domain(rt, alloc, domain, by, event, pass.reserved);
         match answer {
-            Ok(reply) => pass.told.push_reserved(Told { event, reply }),
+            Ok(reply) => pass.told.push_reserved(AnsweredCommand { event, reply }),
             Err(refusal) => pass.note_refusal(refusal),
         }
         answer

@@ -3,8 +3,8 @@
 ghost use Rattle.std.specs.Prelude.{◌≡◌, ◌≢◌, ◌<◌, ◌≤◌, Err, length};
 ghost use Rattle.domain_core.specs.declared.event.Refusal.TheVariants.{NoSuch};
 
-use crate::halves::{TurnEnd, Turned, begin_turn, commit_slot, end_turn};
-use crate::moves::{MovesEnd, end_round};
+use crate::halves::{TurnOutcome, Turned, begin_turn, commit_slot, end_turn};
+use crate::moves::{MovesOutcome, end_round};
 use crate::service::Service;
 use crate::session::Settled;
 use crate::worker::Gate;
@@ -12,7 +12,7 @@ use domain_core::{Committed, Refusal, Ticket};
 use std::alloc::Global;
 use std::sync::Wait;
 use token_queue::Token;
-use turn_schedule::{BurstLength, Pace, RoundEnd};
+use turn_schedule::{BurstLength, Pace, RoundOutcome};
 
 // Does up to `steps` Steps of the ticket in a slot; returns how many it has then.
 fn burst(slot: &mut Option<Ticket>, steps: u64) -> u64 {
@@ -36,18 +36,18 @@ enum Begun {
     NoRoom,
 }
 
-impl TurnEnd {
+impl TurnOutcome {
     // There was nothing to do.
-    fn nothing() -> TurnEnd {
-        TurnEnd {
+    fn nothing() -> TurnOutcome {
+        TurnOutcome {
             turned: Ok(Turned::NoStep),
             moved: Ok(false),
         }
     }
 
     // The node's Steps were refused.
-    fn of_refusal(refusal: Refusal) -> TurnEnd {
-        TurnEnd {
+    fn of_refusal(refusal: Refusal) -> TurnOutcome {
+        TurnOutcome {
             turned: Err(refusal),
             moved: Ok(false),
         }
@@ -113,10 +113,10 @@ impl Service {
         token: Token,
         checked_out: bool,
         slot: &mut Option<Ticket>,
-    ) -> TurnEnd {
+    ) -> TurnOutcome {
         match self.hold(rt, token.domain) {
             Some(seated) if !checked_out && self.has_no_room(token.domain, &seated) => {
-                TurnEnd::nothing()
+                TurnOutcome::nothing()
             }
             Some(mut seated) => {
                 let ended = end_turn(alloc, &mut seated, checked_out, slot);
@@ -124,7 +124,7 @@ impl Service {
                 self.schedule().allowance().note(token.domain, recorded);
                 ended
             }
-            None => TurnEnd::of_refusal(Refusal::NoSuch),
+            None => TurnOutcome::of_refusal(Refusal::NoSuch),
         }
     }
 
@@ -173,7 +173,7 @@ impl Service {
     // Notes what a turn found. The turn began after `changes` changes of its domain. A refusal for a full journal comes
     // again until the domain is changed.
     fn note_turn(&self, token: Token, changes: u64, ended: &Result<TurnDone, Refusal>) {
-        let rest = self.schedule().rest();
+        let rest = self.schedule().sleep_board();
         match ended {
             Ok(ended) if ended.is_busy() => {
                 if ended.moved {
@@ -197,8 +197,10 @@ impl Service {
         slot: &mut Option<Ticket>,
         length: BurstLength,
     ) -> Result<bool, Refusal> {
-        let changes = self.schedule().rest().changes(token.domain);
-        if self.schedule().rest().is_resting(token) || self.schedule().is_paused(token.domain) {
+        let changes = self.schedule().sleep_board().changes(token.domain);
+        if self.schedule().sleep_board().is_resting(token)
+            || self.schedule().is_paused(token.domain)
+        {
             return Ok(false);
         }
         let Some(take) = self.schedule().take(token) else {
@@ -342,18 +344,18 @@ impl Service {
         slot: &mut Option<Ticket>,
         quantum: u64,
         quanta: u64,
-    ) -> Result<RoundEnd, Refusal>
+    ) -> Result<RoundOutcome, Refusal>
         requires quantum { 1 ≤ quantum }
         requires quanta { 1 ≤ quanta }
         ensures there { domain < length self.now.plan → result ≢ Err NoSuch }
     {
         let nodes = self.nodes(domain);
         self.bursts(rt, alloc, domain, nodes, slot, quantum, quanta)?;
-        let MovesEnd { moved, is_quiet } = match self.hold(rt, domain) {
+        let MovesOutcome { moved, is_quiet } = match self.hold(rt, domain) {
             Some(mut seated) => end_round(alloc, &mut seated)?,
             None => return Err(Refusal::NoSuch),
         };
-        Ok(RoundEnd {
+        Ok(RoundOutcome {
             moved,
             is_quiet,
             rounds: self.quanta_used(domain, nodes, quantum, quanta),
@@ -403,7 +405,7 @@ impl Service {
         requires quantum { 1 ≤ quantum }
         ensures there { domain < length self.now.plan → result ≢ Err NoSuch }
     {
-        let mut pace = Pace::of(rounds, self.schedule().rest().changes(domain));
+        let mut pace = Pace::of(rounds, self.schedule().sleep_board().changes(domain));
         for _round in 0..rounds {
             if pace.is_over() || self.rests(rt, domain) {
                 break;
@@ -412,7 +414,7 @@ impl Service {
             if ended.is_quiet {
                 return Ok(Settled::Quiet);
             }
-            let changes = self.schedule().rest().changes(domain);
+            let changes = self.schedule().sleep_board().changes(domain);
             pace = pace.after(ended, changes, quantum);
         }
         Ok(Settled::Busy)

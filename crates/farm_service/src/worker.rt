@@ -149,7 +149,7 @@ pub fn work<R: Wait, G: Gate>(
     ensures none { pass.new.held ≡ [] }
     ensures pass { pass.new ≡ pass.old }
 {
-    let workers_before = service.schedule().rest().begin_work();
+    let workers_before = service.schedule().sleep_board().begin_work();
     let worked = take_turns(
         rt,
         alloc,
@@ -160,6 +160,6 @@ pub fn work<R: Wait, G: Gate>(
         turns,
         workers_before,
     );
-    service.schedule().rest().end_work();
+    service.schedule().sleep_board().end_work();
     worked
 }

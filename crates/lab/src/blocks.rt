@@ -1,6 +1,6 @@
 //! Texts in which blocks of lines are below headings.
 
-use line_words::{NumberedLineFault, line_as_str};
+use lab_words::{NumberedLineFault, line_as_str};
 use script_text::{NumberedLine, TextWriter, numbered_lines};
 use std::alloc::{AllocError, Global};
 
@@ -26,7 +26,7 @@ fn add_line<'a>(lines: &mut Vec<&'a str>, line: NumberedLine<'a>) -> Result<(), 
 }
 
 /// The number of the line of this index.
-pub fn number_of(index: usize) -> u64 {
+pub fn line_number_at(index: usize) -> u64 {
     (index as u64).saturating_add(1)
 }
 

@@ -19,7 +19,7 @@ impl ProgramFiles for Files<'_> {
         };
         match program_of_text(self.0.alloc(), file, text) {
             Ok(program) => Ok(FoundProgram::Program(program)),
-            Err(WrongProgram::Told(mistakes)) => Ok(FoundProgram::Wrong(mistakes)),
+            Err(WrongProgram::Shown(mistakes)) => Ok(FoundProgram::Wrong(mistakes)),
             Err(WrongProgram::Memory) => Err(AllocError),
         }
     }

@@ -2,7 +2,7 @@
 
 use lab_command::{LabFailure, NO_MEMORY, REFUSED_PLAN, WRONG_TEXT};
 use lab_debug::DebugFault;
-use plan_faults::PlanRefusal;
+use plan_mistakes::PlanRefusal;
 use record_following::{RecordStop, WhyFault};
 use script_replay::{ReplayFault, RunFault};
 use std::alloc::Global;
@@ -18,7 +18,7 @@ pub fn refused_plan(alloc: Global, refusal: &PlanRefusal) -> LabFailure {
 /// A text isn't replayed.
 pub fn wrong_replay(alloc: Global, fault: ReplayFault) -> LabFailure {
     match fault {
-        ReplayFault::OfUser(text) => LabFailure::Told {
+        ReplayFault::OfUser(text) => LabFailure::Shown {
             text,
             status: WRONG_TEXT,
         },
@@ -32,7 +32,7 @@ pub fn wrong_replay(alloc: Global, fault: ReplayFault) -> LabFailure {
 /// A script isn't run.
 pub fn wrong_run(alloc: Global, fault: RunFault) -> LabFailure {
     match fault {
-        RunFault::Lines(text) => LabFailure::Told {
+        RunFault::Lines(text) => LabFailure::Shown {
             text,
             status: WRONG_TEXT,
         },

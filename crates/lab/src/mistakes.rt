@@ -1,10 +1,10 @@
 //! Lines that are read and not done, each with the mistake that is found in it.
 
 use event_text::read_request;
-use line_mistakes::{Wanted, WordForm, WordMistake, WordRole, WrongLine};
-use line_words::{NumberedLineFault, Question, WordFault};
+use lab_words::{NumberedLineFault, Question, WordFault};
 use node_trace::read_trace_line;
 use std::alloc::Global;
+use word_mistakes::{Wanted, WordForm, WordMistake, WordRole, WrongLine};
 
 /// The answer to a row, which is `replay` or `trace`, a blank, and a line as that subcommand reads it. The answer is the
 /// mistake of that line, in the words that follow the line's number in a message, or `right`.

@@ -1,10 +1,10 @@
 //! Occam texts: compiled, and compared with rows.
 
-use crate::blocks::{HEADING, lines_as_text, lines_below, number_of, read_lines};
+use crate::blocks::{HEADING, line_number_at, lines_as_text, lines_below, read_lines};
 use lab_command::{
     AssemblyOptions, LabFailure, OccamForm, OccamRequest, Report, WRONG_TEXT, read_file,
 };
-use line_words::{Answered, NumberedLineFault, Question};
+use lab_words::{Answered, NumberedLineFault, Question};
 use node_answers::{print_assembled, print_code};
 use occam::{
     ExaminedText, LARGEST_MEMORY, OccamFault, OccamProgram, assembler_text, bytes_at, compile,
@@ -157,7 +157,7 @@ pub fn compile_rows(alloc: Global, text: &[u8]) -> Result<Vec<Answered<'_>>, Num
     for (index, line) in lines.iter().enumerate() {
         if let Some(expected) = line.strip_prefix(HEADING) {
             let below = lines_below(lines.as_slice(), index);
-            add_row(alloc, &mut answers, number_of(index), expected, below)?;
+            add_row(alloc, &mut answers, line_number_at(index), expected, below)?;
         }
     }
     Ok(answers)

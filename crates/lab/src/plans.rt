@@ -1,11 +1,11 @@
 //! Plans in files, each with what the checker is to answer.
 
-use crate::blocks::{HEADING, lines_as_text, lines_below, number_of, read_lines};
-use line_mistakes::{Wanted, WordForm, WordMistake, WordRole, WrongLine};
-use line_words::{Answered, NumberedLineFault, Question};
-use plan_faults::{PlanRefusal, plan_or_reason};
+use crate::blocks::{HEADING, line_number_at, lines_as_text, lines_below, read_lines};
+use lab_words::{Answered, NumberedLineFault, Question};
+use plan_mistakes::{PlanRefusal, plan_or_reason};
 use script_text::TextWriter;
 use std::alloc::{AllocError, Global};
+use word_mistakes::{Wanted, WordForm, WordMistake, WordRole, WrongLine};
 
 /// What comes before a text that is replaced.
 const REPLACE: &str = "replace: ";
@@ -37,7 +37,7 @@ pub fn try_plans(alloc: Global, text: &[u8]) -> Result<Vec<Answered<'_>>, Number
     for (index, line) in lines.iter().enumerate() {
         if let Some(heading) = line.strip_prefix(HEADING) {
             let below = lines_below(lines.as_slice(), index);
-            trials.try_block(alloc, number_of(index), heading, below)?;
+            trials.try_block(alloc, line_number_at(index), heading, below)?;
         }
     }
     Ok(trials.answers)

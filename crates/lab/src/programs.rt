@@ -17,7 +17,7 @@ use t414_assembly::{BOOTED, LOADED, TextFault};
 #[derive(Drop)]
 pub enum WrongProgram {
     /// These mistakes, each in a line.
-    Told(String),
+    Shown(String),
     Memory,
 }
 
@@ -31,7 +31,7 @@ impl WrongProgram {
     // The failure of a request that names the file of the text.
     fn in_file(self, alloc: Global, file: &str) -> LabFailure {
         match self {
-            WrongProgram::Told(text) => LabFailure::Told {
+            WrongProgram::Shown(text) => LabFailure::Shown {
                 text,
                 status: WRONG_TEXT,
             }
@@ -66,7 +66,7 @@ fn assembled_program(alloc: Global, text: Vec<u8>) -> Result<Program, WrongProgr
     match Program::read(alloc, text) {
         Ok(program) => Ok(program),
         Err(TextFault::Memory(_)) => Err(WrongProgram::Memory),
-        Err(fault) => Err(WrongProgram::Told(format!(in alloc; "{fault}\n")?)),
+        Err(fault) => Err(WrongProgram::Shown(format!(in alloc; "{fault}\n")?)),
     }
 }
 
@@ -117,7 +117,7 @@ fn wrong_text(alloc: Global, fault: &OccamFault) -> WrongProgram {
     match fault {
         OccamFault::NoMemory => WrongProgram::Memory,
         fault => match format!(in alloc; "{fault}\n") {
-            Ok(text) => WrongProgram::Told(text),
+            Ok(text) => WrongProgram::Shown(text),
             Err(_) => WrongProgram::Memory,
         },
     }

@@ -8,7 +8,7 @@ use crate::plans::try_plans;
 use crate::replays::replay_with_files;
 use crate::scripts::folder_of;
 use lab_command::{LabFailure, Report, RowFiles, TerminalMeter, read_file};
-use line_words::{Answered, NumberedLineFault, Question, read_questions};
+use lab_words::{Answered, NumberedLineFault, Question, read_questions};
 use node_answers::wrong_trace;
 use node_trace::{TraceFault, trace};
 use script_replay::Replayed;

@@ -1,9 +1,9 @@
-//! Scripts with lines that help: spelled out, or run.
+//! Scripts with shorthand lines: spelled out, or run.
 
 use crate::failure::wrong_run;
 use lab_command::{LabFailure, ScriptUse, TerminalMeter, WRONG_TEXT, read_file, readable_bytes};
 use lab_script::{Expanded, LoadedFile, expand, files_named};
-use line_words::NumberedLineFault;
+use lab_words::NumberedLineFault;
 use script_replay::{record_script, run_script};
 use script_text::{TextWriter, divide_at_plan_end, read_whole};
 use std::alloc::{Alloc, AllocError, Global};
@@ -126,7 +126,7 @@ fn right_lines(expanded: Expanded) -> Result<String, LabFailure> {
     if wrong.is_empty() {
         Ok(text)
     } else {
-        Err(LabFailure::Told {
+        Err(LabFailure::Shown {
             text: wrong,
             status: WRONG_TEXT,
         })

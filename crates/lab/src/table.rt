@@ -2,9 +2,9 @@
 
 use crate::failure::refused_plan;
 use lab_command::{LabFailure, REFUSED_PLAN};
-use line_faults::has_verb;
-use plan_faults::{PlanRefusal, line_unread, plan_or_reason};
+use plan_mistakes::{PlanRefusal, line_unread, plan_or_reason};
 use plan_views::table_of;
+use script_mistakes::has_verb;
 use script_text::{divide_at_plan_end, read_whole};
 use std::alloc::{AllocError, Global};
 

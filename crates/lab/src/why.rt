@@ -5,8 +5,8 @@ use crate::failure::stopped_record;
 use crate::programs::{ReadProgram, read_node_programs};
 use lab_command::{Explaining, LabFailure, TerminalMeter, read_file};
 use lab_debug::{ProgramOf, write_waits};
-use node_causes::explain_followed;
-use record_following::{Follower, RecordStop, follow_record, read_record};
+use node_causes::explain_replayed;
+use record_following::{RecordStop, ReplayedDomain, apply_record, read_record};
 use script_text::TextWriter;
 use std::alloc::{AllocError, Global};
 
@@ -40,28 +40,28 @@ fn explain(
 ) -> Result<String, RecordStop> {
     let record = read_record(rt.alloc(), text, asked.events)?;
     let mut meter = TerminalMeter::begin(rt, asked.most);
-    let followed = follow_record(
+    let followed = apply_record(
         rt.alloc(),
         &record.plan,
         record.lines.as_slice(),
         &mut meter,
     );
     meter.wipe();
-    let follower = followed?;
-    Ok(causes_of(rt.alloc(), &follower, record.is_cut, programs)?)
+    let replayed = followed?;
+    Ok(causes_of(rt.alloc(), &replayed, record.is_cut, programs)?)
 }
 
 // Why each node waits, and below it the lines of the programs in which they do.
 fn causes_of(
     alloc: Global,
-    follower: &Follower,
+    replayed: &ReplayedDomain,
     is_cut: bool,
     programs: &[ReadProgram],
 ) -> Result<String, AllocError> {
     let mut told = TextWriter::new(alloc);
-    told.push(explain_followed(alloc, follower, is_cut)?.as_str());
+    told.push(explain_replayed(alloc, replayed, is_cut)?.as_str());
     for of in programs {
-        write_waits(alloc, follower, of.node, &of.program, &mut told)?;
+        write_waits(alloc, replayed, of.node, &of.program, &mut told)?;
     }
     told.finish()
 }

@@ -1,12 +1,12 @@
 //! Why the lab ends without its output.
 
 use bootstrap::{LEAST_BOOTED, MOST_BOOTED};
-use line_words::NumberedLineFault;
+use lab_words::NumberedLineFault;
 use script_text::{ReadFault, write_whole};
 use std::alloc::{AllocError, AllocFailed, Global};
 use std::fmt;
 use std::io::Write;
-use step_meter::StepsEnd;
+use step_meter::OutOfSteps;
 use thiserror::Error;
 
 /// The status if the words of the command line are wrong.
@@ -75,7 +75,7 @@ fn hint_of_length(count: usize) -> &'static str {
 #[derive(Drop)]
 pub enum LabFailure {
     /// This text is written to standard error, and the process ends with this status.
-    Told { text: String, status: u8 },
+    Shown { text: String, status: u8 },
     Memory,
     /// Standard input can't be read, or standard output can't be written.
     Io,
@@ -85,7 +85,7 @@ impl LabFailure {
     /// The failure with this text, or `Memory` if there was no memory for the text.
     pub fn of_text(text: Result<String, AllocError>, status: u8) -> LabFailure {
         match text {
-            Ok(text) => LabFailure::Told { text, status },
+            Ok(text) => LabFailure::Shown { text, status },
             Err(_) => LabFailure::Memory,
         }
     }
@@ -117,7 +117,7 @@ impl LabFailure {
     }
 
     /// As many Steps were done as may be.
-    pub fn of_steps(alloc: Global, end: StepsEnd) -> LabFailure {
+    pub fn of_steps(alloc: Global, end: OutOfSteps) -> LabFailure {
         LabFailure::of_line(alloc, &end, OUT_OF_STEPS)
     }
 
@@ -130,7 +130,7 @@ impl LabFailure {
     // The text for standard error.
     fn text(&self) -> &str {
         match self {
-            LabFailure::Told { text, .. } => text.as_str(),
+            LabFailure::Shown { text, .. } => text.as_str(),
             LabFailure::Memory => "memory\n",
             LabFailure::Io => "io\n",
         }
@@ -139,7 +139,7 @@ impl LabFailure {
     // The status of the process.
     fn status(&self) -> u8 {
         match self {
-            LabFailure::Told { status, .. } => *status,
+            LabFailure::Shown { status, .. } => *status,
             LabFailure::Memory => NO_MEMORY,
             LabFailure::Io => NOT_READ,
         }

@@ -3,7 +3,7 @@
 use script_text::write_whole;
 use std::io::IsTerminal;
 use std::time::Instant;
-use step_meter::{StepBound, StepMeter, StepsEnd};
+use step_meter::{OutOfSteps, StepBound, StepMeter};
 
 /// How many milliseconds there are at least from one report to the next.
 const BETWEEN: u128 = 500;
@@ -52,7 +52,7 @@ impl<'a> TerminalMeter<'a> {
 }
 
 impl StepMeter for TerminalMeter<'_> {
-    fn allow(&mut self, wanted: u64) -> Result<u64, StepsEnd> {
+    fn allow(&mut self, wanted: u64) -> Result<u64, OutOfSteps> {
         self.bound.allow(wanted)
     }
 

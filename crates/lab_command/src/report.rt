@@ -1,7 +1,7 @@
 //! What goes to standard output, and the status.
 
 use crate::failure::LabFailure;
-use line_words::Answered;
+use lab_words::Answered;
 use script_text::{TextWriter, write_whole};
 use std::alloc::Global;
 use std::process::ExitCode;

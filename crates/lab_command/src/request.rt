@@ -110,7 +110,7 @@ pub struct Drawing {
 /// What is done with the text of a script.
 #[derive(Clone, Copy)]
 pub enum ScriptUse {
-    /// Its lines that help are spelled out.
+    /// Its shorthand lines are spelled out.
     Expand,
     /// It is run on one thread, if that takes no more Steps than these.
     Run(Option<u64>),

@@ -142,7 +142,7 @@ impl Subcommand {
                 "Shows the record of a domain as a film: prints a page that a browser opens"
             }
             Subcommand::Expand => {
-                "Spells out the lines of a script that help: reads a plan, a line ---, and a script"
+                "Spells out the shorthand lines of a script: reads a plan, a line ---, and a script"
             }
             Subcommand::Run => {
                 "Runs a script as farm does, on one thread: reads a plan, a line ---, and a script, whose lines may help"

@@ -4,7 +4,7 @@ use record_following::{RecordStop, WhyFault};
 use script_text::WriteFailed;
 use std::alloc::{AllocError, AllocFailed};
 use std::io;
-use step_meter::StepsEnd;
+use step_meter::OutOfSteps;
 use thiserror::Error;
 
 /// Why the debugger ends before its input does.
@@ -15,7 +15,7 @@ pub enum DebugFault {
     Record(WhyFault),
     /// The record has more Steps than may be done.
     #[error("{0}")]
-    Steps(StepsEnd),
+    Steps(OutOfSteps),
     #[error("memory")]
     Memory(#[from(alloc)] AllocError),
     /// The commands can't be read, or the answers can't be written.

@@ -18,7 +18,7 @@ pub fn add_line(
     Ok(())
 }
 
-// The first line behind that of a number that has code.
+// The first line after that of a number that has code.
 fn next_with_code(begins: &[ProgramLine], number: u32) -> Option<u32> {
     let mut next: Option<u32> = None;
     for begin in begins {

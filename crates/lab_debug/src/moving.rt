@@ -1,7 +1,7 @@
 //! What the debugger does for a command.
 
 ghost use Rattle.std.specs.Prelude.{OnOk};
-ghost use Rattle.record_following.specs.Progress.{IsMomentAt};
+ghost use Rattle.record_following.specs.RecordCursor.{IsMomentAt};
 
 use crate::code::write_code;
 use crate::command::{Address, DebugCommand, Sought, write_help};

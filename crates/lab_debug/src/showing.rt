@@ -1,7 +1,7 @@
 //! What is shown of a domain at a moment.
 
 use answer_text::write_seen;
-use bootstrap::{Node, number_of};
+use bootstrap::{Node, link_number_of};
 use domain_core::{Device, Host, Moment, NoMemory, device_at};
 use event_text::{write_event, write_user};
 use lab_timeline::Timeline;
@@ -267,7 +267,7 @@ pub fn write_queue(node: &Node, text: &mut TextWriter) {
 pub fn write_links(node: &Node, text: &mut TextWriter) {
     for number in LinkNumber::all() {
         text.push("link ");
-        text.push_decimal(u64::from(number_of(number)));
+        text.push_decimal(u64::from(link_number_of(number)));
         write_link_fields(text, &node.links().at(number));
         text.push("\n");
     }

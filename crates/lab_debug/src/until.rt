@@ -5,7 +5,7 @@ use bootstrap::{Node, Packet};
 use domain_core::{Event, Moved};
 use farm_records::RecordedCall;
 use lab_timeline::Timeline;
-use record_following::{FollowFault, Past};
+use record_following::{EventNotes, FollowFault};
 use std::alloc::AllocError;
 
 /// What is looked for in a record.
@@ -109,18 +109,18 @@ fn moves_byte(timeline: &mut Timeline, goal: Goal, event: Event) -> bool {
 
 // Whether the last event was a fault, or a loss, if that is looked for.
 fn was_noted(timeline: &Timeline, goal: Goal) -> bool {
-    let (past, event) = (timeline.here().past(), timeline.here().recorded_events());
+    let (notes, event) = (timeline.here().notes(), timeline.here().recorded_events());
     match goal {
-        Goal::Fault => is_fault(past, event),
-        Goal::Lost => is_loss(past, event),
+        Goal::Fault => is_fault(notes, event),
+        Goal::Lost => is_loss(notes, event),
         Goal::At { .. } | Goal::Jump { .. } | Goal::Byte(_) | Goal::Write { .. } => false,
     }
 }
 
 // Whether a node met its fault in an event.
-fn is_fault(past: &Past, event: u64) -> bool {
+fn is_fault(notes: &EventNotes, event: u64) -> bool {
     for node in 0..8u8 {
-        if let Some(fault) = past.node(node).fault
+        if let Some(fault) = notes.node(node).fault
             && fault.event == event
         {
             return true;
@@ -130,9 +130,9 @@ fn is_fault(past: &Past, event: u64) -> bool {
 }
 
 // Whether a packet was lost in an event.
-fn is_loss(past: &Past, event: u64) -> bool {
+fn is_loss(notes: &EventNotes, event: u64) -> bool {
     for port in 0..32u8 {
-        let lost = past.port(port);
+        let lost = notes.port(port);
         if lost.byte == Some(event) || lost.acknowledge == Some(event) {
             return true;
         }

@@ -6,7 +6,7 @@ use domain_core::NoMemory;
 use link_channels::Process;
 use node_causes::{Cause, LinkWaits, cause_of, inside_waits};
 use node_trace::{Program, ProgramLine, line_with, write_line_number};
-use record_following::Follower;
+use record_following::ReplayedDomain;
 use script_text::TextWriter;
 use std::alloc::Global;
 
@@ -107,12 +107,12 @@ fn waiting_processes(
 /// Writes in which line of its program each process of a node waits, or in which it halted or goes on.
 pub fn write_waits(
     alloc: Global,
-    follower: &Follower,
+    replayed: &ReplayedDomain,
     number: u8,
     program: &Program,
     text: &mut TextWriter,
 ) -> Result<(), NoMemory> {
-    let Some(node) = follower.node(number) else {
+    let Some(node) = replayed.node(number) else {
         return Ok(());
     };
     let lines = program.lines(alloc)?;
@@ -122,7 +122,7 @@ pub fn write_waits(
         program,
         lines: lines.as_slice(),
     };
-    match cause_of(follower, number) {
+    match cause_of(replayed, number) {
         Some(Cause::Rests(waits)) => {
             for process in &waiting_processes(alloc, node, &waits)? {
                 its.write_process(*process, text);
@@ -134,7 +134,7 @@ pub fn write_waits(
             }
         }
         Some(Cause::Halted(_)) => {
-            if let Some(fault) = follower.past().node(number).fault
+            if let Some(fault) = replayed.notes().node(number).fault
                 && let Some(registers) = fault.registers
             {
                 its.write("erred", registers.instruction, text);

@@ -7,7 +7,7 @@ use answer_text::write_seen;
 use bootstrap::{Cpu, NodeState, Seen};
 use crossbar::Word;
 use link_channels::Link;
-use record_following::Follower;
+use record_following::ReplayedDomain;
 use script_text::TextWriter;
 use serde::Serialize;
 use std::alloc::Global;
@@ -212,11 +212,11 @@ fn look_change(
 fn code_change(
     alloc: Global,
     known: &mut KnownCode,
-    follower: &Follower,
+    replayed: &ReplayedDomain,
     number: u8,
     running: Option<Cpu>,
 ) -> Result<Option<CodeBytes>, NoMemory> {
-    match (running, follower.node(number)) {
+    match (running, replayed.node(number)) {
         (Some(registers), Some(node)) => {
             known.tell(alloc, number, node.memory(), registers.instruction)
         }
@@ -330,7 +330,7 @@ fn link_changes(
 fn node_change(
     alloc: Global,
     known: &mut KnownCode,
-    follower: &Follower,
+    replayed: &ReplayedDomain,
     number: u8,
     old: Option<NodeFrame>,
     new: NodeFrame,
@@ -345,7 +345,7 @@ fn node_change(
         node: number,
         look,
         registers,
-        code: code_change(alloc, known, follower, number, running)?,
+        code: code_change(alloc, known, replayed, number, running)?,
         workspace: workspace_change(alloc, known, number, running, &new.workspace)?,
         waiting: waiting_change(alloc, old, new)?,
         links: link_changes(alloc, old, new)?,
@@ -437,13 +437,13 @@ fn word_changes(alloc: Global, old: &[Word], new: &[Word]) -> Result<Vec<Changed
 fn add_node_change(
     alloc: Global,
     known: &mut KnownCode,
-    follower: &Follower,
+    replayed: &ReplayedDomain,
     number: u8,
     old: Option<NodeFrame>,
     new: NodeFrame,
     changes: &mut Vec<ChangedNode>,
 ) -> Result<(), NoMemory> {
-    if let Some(change) = node_change(alloc, known, follower, number, old, new)? {
+    if let Some(change) = node_change(alloc, known, replayed, number, old, new)? {
         changes.push(change)?;
     }
     Ok(())
@@ -452,7 +452,7 @@ fn add_node_change(
 fn node_changes(
     alloc: Global,
     known: &mut KnownCode,
-    follower: &Follower,
+    replayed: &ReplayedDomain,
     old: Option<&Frame>,
     new: &Frame,
 ) -> Result<Vec<ChangedNode>, NoMemory> {
@@ -463,7 +463,7 @@ fn node_changes(
             None => None,
         };
         if let Some(node) = new.nodes[usize::from(number)] {
-            add_node_change(alloc, known, follower, number, before, node, &mut changes)?;
+            add_node_change(alloc, known, replayed, number, before, node, &mut changes)?;
         }
     }
     Ok(changes)
@@ -493,7 +493,7 @@ fn host_changes(
 pub fn changes_of(
     alloc: Global,
     known: &mut KnownCode,
-    follower: &Follower,
+    replayed: &ReplayedDomain,
     old: Option<&Frame>,
     new: &Frame,
 ) -> Result<FrameChanges, NoMemory> {
@@ -504,7 +504,7 @@ pub fn changes_of(
     Ok(FrameChanges {
         recorded: new.recorded,
         words: word_changes(alloc, words, new.words.as_slice())?,
-        nodes: node_changes(alloc, known, follower, old, new)?,
+        nodes: node_changes(alloc, known, replayed, old, new)?,
         hosts: host_changes(alloc, old, new)?,
     })
 }

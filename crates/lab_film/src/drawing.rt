@@ -103,7 +103,7 @@ function linesShown(name, lines, kind) {
   return box;
 }
 
-// The queue, of which four processes are shown, and the words of the workspace.
+// The queue, with its first four processes, and the words of the workspace.
 function processesShown(node, number) {
   const waiting = node.waiting.map((it) => {
     const line = occamText(number, it.instruction);
@@ -235,7 +235,7 @@ function packetDrawn(svg, number, x) {
   }
 }
 
-// A user's byte comes down to his host's lane, or leaves it upwards; it is hollow if it was refused, or there was none.
+// A user's byte comes down to the host's lane, or leaves it upwards; it is hollow if it was refused, or there was none.
 function hostDrawn(svg, number, x, y) {
   const { verb, byte } = asked[number], { answer } = lines[number], isDone = isByteOfHost(number);
   const d = verb === "write" ? `M${x - 5} ${y - 8}h10l-5 8z` : `M${x - 5} ${y}h10l-5 -8z`;

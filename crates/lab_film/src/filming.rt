@@ -5,13 +5,14 @@ use crate::NoMemory;
 use crate::changes::{FrameChanges, changes_of};
 use crate::code::KnownCode;
 use crate::frame::{Frame, frame_of};
+use crate::json::{LineFrames, json_text, line_told};
 use crate::plan::plan_told;
 use crate::shot::{Shot, shot_of};
 use crate::steps::next_steps;
-use crate::told::{LineFrames, json_text, line_told};
 use plan_checker::AcceptedPlan;
 use record_following::{
-    Follower, LineStop, Progress, Record, RecordStop, RecordedLine, check_answer, read_record,
+    LineStop, Record, RecordCursor, RecordStop, RecordedLine, ReplayedDomain, check_answer,
+    read_record,
 };
 use script_text::TextWriter;
 use std::alloc::Global;
@@ -30,7 +31,7 @@ pub struct Span {
 // still follow.
 struct Filming {
     alloc: Global,
-    progress: Progress,
+    cursor: RecordCursor,
     known: KnownCode,
     last: Frame,
     left: u64,
@@ -41,7 +42,7 @@ impl Drop for Filming {
     fn drop(self) {
         let Filming {
             alloc: _,
-            progress: _,
+            cursor: _,
             known: _,
             last: _,
             left: _,
@@ -55,7 +56,7 @@ impl Filming {
         let changes = changes_of(
             self.alloc,
             &mut self.known,
-            &self.progress.follower,
+            &self.cursor.replayed,
             Some(&self.last),
             &frame,
         )?;
@@ -71,7 +72,7 @@ impl Filming {
         frames: &mut LineFrames,
         meter: &mut M,
     ) -> Result<(), LineStop> {
-        let Shot { outcome, frame } = shot_of(self.alloc, &mut self.progress, most, meter)?;
+        let Shot { outcome, frame } = shot_of(self.alloc, &mut self.cursor, most, meter)?;
         frames.outcome = Some(outcome);
         self.add_frame(frame, frames)?;
         Ok(())
@@ -90,9 +91,9 @@ impl Filming {
         frames: &mut LineFrames,
         meter: &mut M,
     ) -> Result<(), LineStop> {
-        let times = self.progress.rest.times;
+        let times = self.cursor.rest.times;
         for _ in 0..self.left {
-            let shown = times.saturating_sub(self.progress.rest.times);
+            let shown = times.saturating_sub(self.cursor.rest.times);
             if shown >= times {
                 break;
             }
@@ -113,7 +114,7 @@ impl Filming {
         };
         self.show_parts(&mut frames, meter)?;
         let Some(reply) = frames.reply() else {
-            return Err(self.progress.nothing_left());
+            return Err(self.cursor.nothing_left());
         };
         check_answer(self.alloc, line, reply)?;
         Ok(frames)
@@ -126,7 +127,7 @@ impl Filming {
         text: &mut TextWriter,
         meter: &mut M,
     ) -> Result<(), LineStop> {
-        let done = line.call.times.saturating_sub(self.progress.rest.times);
+        let done = line.call.times.saturating_sub(self.cursor.rest.times);
         let frames = self.frames_of(line, meter)?;
         write_line(self.alloc, line, done, frames, text)?;
         Ok(())
@@ -134,7 +135,7 @@ impl Filming {
 
     // Whether something is left of the record.
     fn goes_on(&self, lines: &[RecordedLine]) -> bool {
-        self.progress.rest.times > 0 || self.progress.next < lines.len()
+        self.cursor.rest.times > 0 || self.cursor.next < lines.len()
     }
 }
 
@@ -160,22 +161,22 @@ fn at_line(line: &RecordedLine, done: Result<(), LineStop>) -> Result<(), Record
 }
 
 // Does the first `from` events of a record.
-fn follow_to<M: StepMeter>(
+fn apply_to<M: StepMeter>(
     alloc: Global,
-    progress: &mut Progress,
+    cursor: &mut RecordCursor,
     lines: &[RecordedLine],
     from: u64,
     meter: &mut M,
 ) -> Result<(), RecordStop> {
     for _ in 0..lines.len() {
-        let left = from.saturating_sub(progress.follower.recorded_events());
+        let left = from.saturating_sub(cursor.replayed.recorded_events());
         if left == 0 {
             break;
         }
-        let Some(line) = progress.line_to_do(lines) else {
+        let Some(line) = cursor.line_to_do(lines) else {
             break;
         };
-        at_line(&line, progress.follow_line(alloc, &line, left, meter))?;
+        at_line(&line, cursor.apply_line(alloc, &line, left, meter))?;
     }
     Ok(())
 }
@@ -184,11 +185,11 @@ fn follow_to<M: StepMeter>(
 fn write_first(
     alloc: Global,
     known: &mut KnownCode,
-    follower: &Follower,
+    replayed: &ReplayedDomain,
     first: &Frame,
     text: &mut TextWriter,
 ) -> Result<(), NoMemory> {
-    let changes = changes_of(alloc, known, follower, None, first)?;
+    let changes = changes_of(alloc, known, replayed, None, first)?;
     text.push(json_text(serde_json::to_string(alloc, &changes))?.as_str());
     Ok(())
 }
@@ -196,27 +197,27 @@ fn write_first(
 // Writes the first frame. What is known of the memories then, and the frame.
 fn first_told(
     alloc: Global,
-    follower: &mut Follower,
+    replayed: &mut ReplayedDomain,
     text: &mut TextWriter,
 ) -> Result<(KnownCode, Frame), NoMemory> {
-    let mut known = KnownCode::none(alloc, follower.part().nodes().len())?;
-    let first = frame_of(alloc, follower)?;
-    write_first(alloc, &mut known, follower, &first, text)?;
+    let mut known = KnownCode::none(alloc, replayed.part().nodes().len())?;
+    let first = frame_of(alloc, replayed)?;
+    write_first(alloc, &mut known, replayed, &first, text)?;
     Ok((known, first))
 }
 
 // Writes the first frame.
 fn begin(
     alloc: Global,
-    progress: Progress,
+    cursor: RecordCursor,
     most: u64,
     text: &mut TextWriter,
 ) -> Result<Filming, NoMemory> {
-    let mut progress = progress;
-    let (known, last) = first_told(alloc, &mut progress.follower, text)?;
+    let mut cursor = cursor;
+    let (known, last) = first_told(alloc, &mut cursor.replayed, text)?;
     Ok(Filming {
         alloc,
-        progress,
+        cursor,
         known,
         last,
         left: most,
@@ -234,7 +235,7 @@ fn show_lines<M: StepMeter>(
         if filming.left == 0 {
             break;
         }
-        let Some(line) = filming.progress.line_to_do(lines) else {
+        let Some(line) = filming.cursor.line_to_do(lines) else {
             break;
         };
         text.push(if shown == 0 { "\n" } else { ",\n" });
@@ -254,10 +255,10 @@ fn show_span<M: StepMeter>(
 ) -> Result<(), RecordStop>
     requires { length plan.now ≡ 1 }
 {
-    let mut progress = Progress::open(alloc, plan)?;
-    follow_to(alloc, &mut progress, lines, span.from, meter)?;
+    let mut cursor = RecordCursor::open(alloc, plan)?;
+    apply_to(alloc, &mut cursor, lines, span.from, meter)?;
     text.push(",\"first\":");
-    let mut filming = begin(alloc, progress, span.count, text)?;
+    let mut filming = begin(alloc, cursor, span.count, text)?;
     text.push(",\"lines\":[");
     show_lines(&mut filming, lines, text, meter)?;
     text.push(if filming.goes_on(lines) {

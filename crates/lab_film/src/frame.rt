@@ -12,7 +12,7 @@ use crossbar::Word;
 use domain_core::Host;
 use link_channels::{Link, LinkNumber, Process};
 use process_queue::{LINK_BELOW, NOT_PROCESS, Queue};
-use record_following::Follower;
+use record_following::ReplayedDomain;
 use std::alloc::Global;
 use std::collections::VecDeque;
 
@@ -94,10 +94,14 @@ fn frame_of_host(alloc: Global, host: &Host) -> Result<HostFrame, NoMemory>
 }
 
 // The host of this number, if there is one.
-fn host_at(alloc: Global, follower: &Follower, number: u8) -> Result<Option<HostFrame>, NoMemory>
-    ensures { IfOk result (ShowsHostOf (slice_get follower.now.machine.devices.hosts number)) }
+fn host_at(
+    alloc: Global,
+    replayed: &ReplayedDomain,
+    number: u8,
+) -> Result<Option<HostFrame>, NoMemory>
+    ensures { IfOk result (ShowsHostOf (slice_get replayed.now.machine.devices.hosts number)) }
 {
-    match follower.host(number) {
+    match replayed.host(number) {
         Some(host) => Ok(Some(frame_of_host(alloc, host)?)),
         None => Ok(None),
     }
@@ -228,10 +232,10 @@ fn frame_of_node(node: &Node) -> NodeFrame
 }
 
 // The node of this number, if there is one.
-fn node_at(follower: &Follower, number: u8) -> Option<NodeFrame>
-    ensures { result ≡ node_told follower.now number }
+fn node_at(replayed: &ReplayedDomain, number: u8) -> Option<NodeFrame>
+    ensures { result ≡ node_told replayed.now number }
 {
-    match follower.node(number) {
+    match replayed.node(number) {
         Some(node) => Some(frame_of_node(node)),
         None => None,
     }
@@ -239,40 +243,40 @@ fn node_at(follower: &Follower, number: u8) -> Option<NodeFrame>
 
 // The switch words of the outputs.
 #[tactic(auto, using(crate::proofs::Words::next_word))]
-fn switch_words(alloc: Global, follower: &mut Follower) -> Result<Vec<Word>, NoMemory>
-    ensures words { IfOk result (λ words. words.items ≡ take follower.old.machine.part.count follower.old.machine.switch.words) }
-    ensures unchanged { follower.new ≡ follower.old }
+fn switch_words(alloc: Global, replayed: &mut ReplayedDomain) -> Result<Vec<Word>, NoMemory>
+    ensures words { IfOk result (λ words. words.items ≡ take replayed.old.machine.part.count replayed.old.machine.switch.words) }
+    ensures unchanged { replayed.new ≡ replayed.old }
 {
     let mut words = Vec::new(alloc);
-    for output in 0..follower.part().count() {
-        words.push(follower.word(output))?;
+    for output in 0..replayed.part().count() {
+        words.push(replayed.word(output))?;
     }
     Ok(words)
 }
 
-fn hosts_of(alloc: Global, follower: &Follower) -> Result<[Option<HostFrame>; 4], NoMemory>
-    ensures { IfOk result (ShowsHosts follower.now 0) }
+fn hosts_of(alloc: Global, replayed: &ReplayedDomain) -> Result<[Option<HostFrame>; 4], NoMemory>
+    ensures { IfOk result (ShowsHosts replayed.now 0) }
 {
     Ok([
-        host_at(alloc, follower, 0)?,
-        host_at(alloc, follower, 1)?,
-        host_at(alloc, follower, 2)?,
-        host_at(alloc, follower, 3)?,
+        host_at(alloc, replayed, 0)?,
+        host_at(alloc, replayed, 1)?,
+        host_at(alloc, replayed, 2)?,
+        host_at(alloc, replayed, 3)?,
     ])
 }
 
-fn nodes_of(follower: &Follower) -> [Option<NodeFrame>; 8]
-    ensures { result ≡ map (node_told follower.now) (0 ∷ 1 ∷ 2 ∷ 3 ∷ 4 ∷ 5 ∷ 6 ∷ 7 ∷ []) }
+fn nodes_of(replayed: &ReplayedDomain) -> [Option<NodeFrame>; 8]
+    ensures { result ≡ map (node_told replayed.now) (0 ∷ 1 ∷ 2 ∷ 3 ∷ 4 ∷ 5 ∷ 6 ∷ 7 ∷ []) }
 {
     [
-        node_at(follower, 0),
-        node_at(follower, 1),
-        node_at(follower, 2),
-        node_at(follower, 3),
-        node_at(follower, 4),
-        node_at(follower, 5),
-        node_at(follower, 6),
-        node_at(follower, 7),
+        node_at(replayed, 0),
+        node_at(replayed, 1),
+        node_at(replayed, 2),
+        node_at(replayed, 3),
+        node_at(replayed, 4),
+        node_at(replayed, 5),
+        node_at(replayed, 6),
+        node_at(replayed, 7),
     ]
 }
 
@@ -281,14 +285,14 @@ fn nodes_of(follower: &Follower) -> [Option<NodeFrame>; 8]
 /// # Errors
 ///
 /// `NoMemory` where the words or the queues can't be copied.
-pub fn frame_of(alloc: Global, follower: &mut Follower) -> Result<Frame, NoMemory>
-    ensures shows { IfOk result (Shows follower.old) }
-    ensures unchanged { follower.new ≡ follower.old }
+pub fn frame_of(alloc: Global, replayed: &mut ReplayedDomain) -> Result<Frame, NoMemory>
+    ensures shows { IfOk result (Shows replayed.old) }
+    ensures unchanged { replayed.new ≡ replayed.old }
 {
     Ok(Frame {
-        recorded: follower.recorded_events(),
-        words: switch_words(alloc, follower)?,
-        nodes: nodes_of(follower),
-        hosts: hosts_of(alloc, follower)?,
+        recorded: replayed.recorded_events(),
+        words: switch_words(alloc, replayed)?,
+        nodes: nodes_of(replayed),
+        hosts: hosts_of(alloc, replayed)?,
     })
 }

@@ -6,6 +6,7 @@ mod code;
 mod drawing;
 mod filming;
 mod frame;
+mod json;
 mod page;
 mod plan;
 mod script;
@@ -13,7 +14,6 @@ mod shot;
 mod sources;
 mod steps;
 mod style;
-mod told;
 
 pub use filming::{Span, film_of};
 pub use frame::{Frame, HostFrame, NodeFrame, frame_of};

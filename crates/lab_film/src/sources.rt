@@ -1,7 +1,7 @@
 //! The programs of nodes, as they are written in JSON beside the film.
 
 use crate::NoMemory;
-use crate::told::json_text;
+use crate::json::json_text;
 use script_text::TextWriter;
 use serde::Serialize;
 use std::alloc::Global;

@@ -1,8 +1,8 @@
-//! A text for `farm` with lines that help, as one without them.
+//! A text for `farm` with shorthand lines, as one without them.
 
-use crate::form::{Help, help_line};
+use crate::form::{Shorthand, shorthand_line};
 use crate::spelling::spell_out;
-use line_words::{NumberedLineFault, line_as_str};
+use lab_words::{NumberedLineFault, line_as_str};
 use script_lines::Command;
 use script_text::{NumberedLine, TextWriter, divide_at_plan_end, is_passed_over, numbered_lines};
 use std::alloc::{AllocError, Global};
@@ -21,7 +21,7 @@ pub struct LoadedFile<'a> {
 pub struct Expanded {
     /// The plan, `---` and plain lines.
     pub text: String,
-    /// A line for each line that helps and is wrong; empty if there is none.
+    /// A line for each shorthand line that is wrong; empty if there is none.
     pub wrong: String,
 }
 
@@ -38,9 +38,9 @@ impl Expansion {
         self.text.push(user);
         self.text.push(" ");
         self.text.push(command.verb().name());
-        if let Some(place) = command.place() {
+        if let Some(target) = command.target() {
             self.text.push(" ");
-            self.text.push_decimal(u64::from(place));
+            self.text.push_decimal(u64::from(target));
         }
         match command {
             Command::Config(bytes) | Command::Write { bytes, .. } => {
@@ -88,13 +88,13 @@ fn file_named(line: NumberedLine<'_>) -> Option<&str> {
 
 /// The name of the file that a line loads, if it loads one.
 pub fn file_loaded(line: &str) -> Option<&str> {
-    match help_line(0, line) {
-        Some(line) if matches!(line.help, Help::Load) => Some(line.halves().1),
+    match shorthand_line(0, line) {
+        Some(line) if matches!(line.shorthand, Shorthand::Load) => Some(line.halves().1),
         _ => None,
     }
 }
 
-/// The plain lines into which a line that helps is spelled out, or why there are none; `None` if the line doesn't help.
+/// The plain lines into which a shorthand line is spelled out, or why there are none; `None` if it is none.
 /// `number` is that of the line in messages.
 pub fn expanded_line(
     alloc: Global,
@@ -102,19 +102,19 @@ pub fn expanded_line(
     line: &str,
     files: &[LoadedFile<'_>],
 ) -> Result<Option<Expanded>, AllocError> {
-    let Some(help) = help_line(number, line) else {
+    let Some(shorthand) = shorthand_line(number, line) else {
         return Ok(None);
     };
     let mut expansion = Expansion {
         text: TextWriter::new(alloc),
         wrong: TextWriter::new(alloc),
     };
-    spell_out(alloc, &mut expansion, help, files);
+    spell_out(alloc, &mut expansion, shorthand, files);
     let Expansion { text, wrong } = expansion;
     Ok(Some(expanded_of(text, wrong)?))
 }
 
-/// Spells out the lines of a script that help: the plan and the line `---` before it stay as they are, and so do all other
+/// Spells out the shorthand lines of a script: the plan and the line `---` before it stay as they are, and so do all other
 /// lines of the script. Before the lines into which a line is spelled out comes the line itself as a remark.
 ///
 /// `Wrong` if a line isn't UTF-8.
@@ -175,17 +175,17 @@ fn expand_line(
     line: &str,
     files: &[LoadedFile<'_>],
 ) {
-    let help = if is_passed_over(line.as_bytes()) {
+    let shorthand = if is_passed_over(line.as_bytes()) {
         None
     } else {
-        help_line(number, line)
+        shorthand_line(number, line)
     };
-    if help.is_some() {
+    if shorthand.is_some() {
         expansion.text.push("# ");
     }
     expansion.text.push(line);
     expansion.text.push("\n");
-    if let Some(help) = help {
-        spell_out(alloc, expansion, help, files);
+    if let Some(shorthand) = shorthand {
+        spell_out(alloc, expansion, shorthand, files);
     }
 }

@@ -1,25 +1,25 @@
-//! The lines that help, and their words.
+//! The shorthand lines, and their words.
 
-use help_lines::{HelpVerb, LOAD};
 use script_text::TextWriter;
+use shorthand_lines::{LOAD, ShorthandVerb};
 
-/// What a line that helps does.
+/// What a shorthand line does.
 #[derive(Clone, Copy)]
-pub enum Help {
+pub enum Shorthand {
     /// A program is assembled and booted, long code through pokes.
     Load,
     /// It asks what a plain line asks.
-    Asks(HelpVerb),
+    Asks(ShorthandVerb),
 }
 
-impl Help {
-    // What a line with this verb does, if it helps.
-    fn of(verb: &str) -> Option<Help> {
+impl Shorthand {
+    // What a line with this verb does, if it is a shorthand line.
+    fn of(verb: &str) -> Option<Shorthand> {
         if verb == LOAD {
-            return Some(Help::Load);
+            return Some(Shorthand::Load);
         }
-        match HelpVerb::of(verb.as_bytes()) {
-            Some(verb) => Some(Help::Asks(verb)),
+        match ShorthandVerb::of(verb.as_bytes()) {
+            Some(verb) => Some(Shorthand::Asks(verb)),
             None => None,
         }
     }
@@ -27,38 +27,38 @@ impl Help {
     // What comes after the user's name in a line.
     fn form(self) -> &'static str {
         match self {
-            Help::Load => " load HOST FILE",
-            Help::Asks(HelpVerb::Join) => " join PORT PORT",
-            Help::Asks(HelpVerb::Send) => " send HOST \"TEXT\"",
-            Help::Asks(HelpVerb::Text) => " text HOST",
+            Shorthand::Load => " load HOST FILE",
+            Shorthand::Asks(ShorthandVerb::Join) => " join PORT PORT",
+            Shorthand::Asks(ShorthandVerb::Send) => " send HOST \"TEXT\"",
+            Shorthand::Asks(ShorthandVerb::Text) => " text HOST",
         }
     }
 
     fn name(self) -> &'static str {
         match self {
-            Help::Load => LOAD,
-            Help::Asks(verb) => verb.name(),
+            Shorthand::Load => LOAD,
+            Shorthand::Asks(verb) => verb.name(),
         }
     }
 }
 
-/// The words of a line that helps: who asks, what the verb does, and what comes after the verb.
+/// The words of a shorthand line: who asks, what the verb does, and what comes after the verb.
 #[derive(Clone, Copy)]
-pub struct HelpLine<'a> {
+pub struct ShorthandLine<'a> {
     /// The number of the line in its script, from 1.
     pub number: u64,
     pub user: &'a str,
-    pub help: Help,
+    pub shorthand: Shorthand,
     pub rest: &'a str,
 }
 
-/// Whether a line's second word is the verb of a line that helps.
-pub fn is_help_line(line: &str) -> bool {
-    help_line(0, line).is_some()
+/// Whether a line's second word is the verb of a shorthand line.
+pub fn is_shorthand_line(line: &str) -> bool {
+    shorthand_line(0, line).is_some()
 }
 
-/// The words of a line, if it helps.
-pub fn help_line(number: u64, line: &str) -> Option<HelpLine<'_>> {
+/// The words of a line, if it is a shorthand line.
+pub fn shorthand_line(number: u64, line: &str) -> Option<ShorthandLine<'_>> {
     match line.split_once(' ') {
         Some((user, behind)) => match behind.split_once(' ') {
             Some((verb, rest)) => with_verb(number, user, verb, rest),
@@ -68,19 +68,24 @@ pub fn help_line(number: u64, line: &str) -> Option<HelpLine<'_>> {
     }
 }
 
-fn with_verb<'a>(number: u64, user: &'a str, verb: &str, rest: &'a str) -> Option<HelpLine<'a>> {
-    match Help::of(verb) {
-        Some(help) => Some(HelpLine {
+fn with_verb<'a>(
+    number: u64,
+    user: &'a str,
+    verb: &str,
+    rest: &'a str,
+) -> Option<ShorthandLine<'a>> {
+    match Shorthand::of(verb) {
+        Some(shorthand) => Some(ShorthandLine {
             number,
             user,
-            help,
+            shorthand,
             rest,
         }),
         None => None,
     }
 }
 
-impl<'a> HelpLine<'a> {
+impl<'a> ShorthandLine<'a> {
     /// The first word after the verb, and what comes after that word; both are empty if there is none.
     pub fn halves(self) -> (&'a str, &'a str) {
         self.rest.split_once(' ').unwrap_or((self.rest, ""))
@@ -93,13 +98,13 @@ impl<'a> HelpLine<'a> {
         text.push(", ");
         text.push(self.user);
         text.push(" ");
-        text.push(self.help.name());
+        text.push(self.shorthand.name());
         text.push(": ");
     }
 
     /// Appends the form that the line should have.
     pub fn write_form(self, text: &mut TextWriter) {
         text.push(self.user);
-        text.push(self.help.form());
+        text.push(self.shorthand.form());
     }
 }

@@ -1,4 +1,4 @@
-//! Lines that help in a script, and the plain lines into which they are spelled out.
+//! Shorthand lines in a script, and the plain lines into which they are spelled out.
 #![tactic(auto)]
 
 mod expanding;
@@ -7,5 +7,5 @@ mod loading;
 mod spelling;
 
 pub use expanding::{Expanded, LoadedFile, expand, expanded_line, file_loaded, files_named};
-pub use form::is_help_line;
+pub use form::is_shorthand_line;
 pub use loading::is_occam_file;

@@ -1,13 +1,13 @@
-//! The plain lines into which a line that helps is spelled out.
+//! The plain lines into which a shorthand line is spelled out.
 
 use crate::expanding::{Expansion, LoadedFile};
-use crate::form::{Help, HelpLine};
+use crate::form::{Shorthand, ShorthandLine};
 use crate::loading::loading_lines;
-use help_lines::{HelpFault, HelpVerb, parse_help};
-use line_mistakes::ShownWord;
-use script_lines::{LineWords, parse_place};
+use script_lines::{LineWords, parse_target};
 use script_text::TextWriter;
+use shorthand_lines::{ShorthandFault, ShorthandVerb, parse_shorthand};
 use std::alloc::{AllocError, Global};
+use word_mistakes::ShownWord;
 
 const NO_PORT: &str = " is no port number: decimal digits, 0 to 31";
 
@@ -18,24 +18,29 @@ const NO_TEXT: &str =
 
 const NO_FILE: &str = " is no file that can be read";
 
-/// Appends the plain lines of a line that helps, or why there are none.
+/// Appends the plain lines of a shorthand line, or why there are none.
 pub fn spell_out(
     alloc: Global,
     expansion: &mut Expansion,
-    line: HelpLine<'_>,
+    line: ShorthandLine<'_>,
     files: &[LoadedFile<'_>],
 ) {
-    match line.help {
-        Help::Load => spell_load(alloc, expansion, line, files),
-        Help::Asks(verb) => spell_asked(alloc, expansion, line, verb),
+    match line.shorthand {
+        Shorthand::Load => spell_load(alloc, expansion, line, files),
+        Shorthand::Asks(verb) => spell_asked(alloc, expansion, line, verb),
     }
 }
 
-fn spell_asked(alloc: Global, expansion: &mut Expansion, line: HelpLine<'_>, verb: HelpVerb) {
-    match parse_help(alloc, verb, LineWords::of(line.rest.as_bytes())) {
+fn spell_asked(
+    alloc: Global,
+    expansion: &mut Expansion,
+    line: ShorthandLine<'_>,
+    verb: ShorthandVerb,
+) {
+    match parse_shorthand(alloc, verb, LineWords::of(line.rest.as_bytes())) {
         Ok(command) => expansion.push_command(line.user, &command),
-        Err(HelpFault::NoMemory) => expansion.text.keep_failure(Err(AllocError)),
-        Err(HelpFault::TooManyWords) => refuse_words(&mut expansion.wrong, line, verb),
+        Err(ShorthandFault::NoMemory) => expansion.text.keep_failure(Err(AllocError)),
+        Err(ShorthandFault::TooManyWords) => refuse_words(&mut expansion.wrong, line, verb),
         Err(fault) => refuse_words_of(&mut expansion.wrong, line, fault),
     }
 }
@@ -43,11 +48,11 @@ fn spell_asked(alloc: Global, expansion: &mut Expansion, line: HelpLine<'_>, ver
 fn spell_load(
     alloc: Global,
     expansion: &mut Expansion,
-    line: HelpLine<'_>,
+    line: ShorthandLine<'_>,
     files: &[LoadedFile<'_>],
 ) {
     let (host, name) = line.halves();
-    if parse_place(host.as_bytes()).is_err() {
+    if parse_target(host.as_bytes()).is_err() {
         refuse(&mut expansion.wrong, line, host, NO_HOST);
         return;
     }
@@ -61,7 +66,12 @@ fn spell_load(
     }
 }
 
-fn spell_program(alloc: Global, expansion: &mut Expansion, line: HelpLine<'_>, program: &[u8]) {
+fn spell_program(
+    alloc: Global,
+    expansion: &mut Expansion,
+    line: ShorthandLine<'_>,
+    program: &[u8],
+) {
     let (host, name) = line.halves();
     match loading_lines(alloc, line.user, host, name, program) {
         Ok(lines) => expansion.text.push(lines.as_str()),
@@ -75,8 +85,8 @@ fn spell_program(alloc: Global, expansion: &mut Expansion, line: HelpLine<'_>, p
 }
 
 // Tells that there are more words than the line should have. All that comes after `text` is shown as its host's number.
-fn refuse_words(text: &mut TextWriter, line: HelpLine<'_>, verb: HelpVerb) {
-    if matches!(verb, HelpVerb::Text) {
+fn refuse_words(text: &mut TextWriter, line: ShorthandLine<'_>, verb: ShorthandVerb) {
+    if matches!(verb, ShorthandVerb::Text) {
         refuse(text, line, line.rest, NO_HOST);
         return;
     }
@@ -90,21 +100,21 @@ fn refuse_words(text: &mut TextWriter, line: HelpLine<'_>, verb: HelpVerb) {
 }
 
 // Tells which word after the verb is wrong, or that one is missing.
-fn refuse_words_of(text: &mut TextWriter, line: HelpLine<'_>, fault: HelpFault) {
+fn refuse_words_of(text: &mut TextWriter, line: ShorthandLine<'_>, fault: ShorthandFault) {
     let (first, behind) = line.halves();
     match fault {
-        HelpFault::FirstPort => refuse(text, line, first, NO_PORT),
-        HelpFault::SecondPort => refuse(text, line, behind, NO_PORT),
-        HelpFault::Host => refuse(text, line, first, NO_HOST),
-        HelpFault::Text => refuse(text, line, behind, NO_TEXT),
-        HelpFault::TooFewWords | HelpFault::TooManyWords | HelpFault::NoMemory => {
+        ShorthandFault::FirstPort => refuse(text, line, first, NO_PORT),
+        ShorthandFault::SecondPort => refuse(text, line, behind, NO_PORT),
+        ShorthandFault::Host => refuse(text, line, first, NO_HOST),
+        ShorthandFault::Text => refuse(text, line, behind, NO_TEXT),
+        ShorthandFault::TooFewWords | ShorthandFault::TooManyWords | ShorthandFault::NoMemory => {
             refuse(text, line, "", "");
         }
     }
 }
 
 // Tells what is wrong with a word; or, if it is missing, what the line should be.
-fn refuse(text: &mut TextWriter, line: HelpLine<'_>, word: &str, wrong: &str) {
+fn refuse(text: &mut TextWriter, line: ShorthandLine<'_>, word: &str, wrong: &str) {
     line.write_head(text);
     if word.is_empty() {
         text.push("too few words: ");

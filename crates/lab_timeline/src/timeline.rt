@@ -4,15 +4,15 @@ ghost use Rattle.std.specs.Prelude.{◌≡◌, ◌<◌, ◌≤◌, IfOk, IfSome,
 ghost use Rattle.domain_core.specs.MachineValue.{machine_of};
 ghost use Rattle.domain_core.specs.PortStates.{IsPortState};
 ghost use Rattle.record_following.specs.Following.{all_said};
-ghost use Rattle.record_following.specs.Progress.{said_by, IsMomentAt, IsProgress, GoesOn};
+ghost use Rattle.record_following.specs.RecordCursor.{said_by, IsMomentAt, IsCursor, GoesOn};
 ghost use Rattle.lab_timeline.specs.Advance.{KeepsOf, IsOfKept, Begins};
 
 use domain_core::{NoMemory, PortState, Reply};
 use plan_checker::AcceptedPlan;
-use record_following::laws::progress_ends;
+use record_following::laws::cursor_ends;
 use record_following::{
-    FollowFault, Follower, LineStop, Progress, Record, RecordStop, RecordedLine, check_answer,
-    read_record,
+    FollowFault, LineStop, Record, RecordCursor, RecordStop, RecordedLine, ReplayedDomain,
+    check_answer, read_record,
 };
 use std::alloc::Global;
 use std::marker::Model;
@@ -30,9 +30,9 @@ pub struct Timeline<'a> {
     lines: Vec<RecordedLine<'a>>,
     is_cut: bool,
     events: u64,
-    opening: Progress,
-    kept: Vec<Progress>,
-    here: Progress,
+    opening: RecordCursor,
+    kept: Vec<RecordCursor>,
+    here: RecordCursor,
     // Whether `here` is a moment of the record. After an error it may be none.
     is_led: bool,
 }
@@ -54,13 +54,13 @@ impl Drop for Timeline<'_> {
 }
 
 impl<'a> Model for Timeline<'a> {
-    ghost use Rattle.record_following.specs.Progress.{said_by};
+    ghost use Rattle.record_following.specs.RecordCursor.{said_by};
     ghost use Rattle.lab_timeline.specs.Timeline.{TimelineValue};
     ghost use Rattle.lab_timeline.specs.Advance.{IsTimeline};
 
     ghost Value = { TimelineValue };
 
-    ghost view = { λ t. record { plan = t.plan; lines = said_by t.lines.items; here = t.here.follower } };
+    ghost view = { λ t. record { plan = t.plan; lines = said_by t.lines.items; here = t.here.replayed } };
 
     ghost invariant = { λ t. IsTimeline t.plan (said_by t.lines.items) t.opening t.kept.items t.is_led t.here };
 }
@@ -68,7 +68,7 @@ impl<'a> Model for Timeline<'a> {
 /// Moments that are kept on the way through a record.
 #[derive(Drop)]
 struct Keeping {
-    kept: Vec<Progress>,
+    kept: Vec<RecordCursor>,
     // How much is done from one to the next.
     gap: u64,
     // How much was done since the last one.
@@ -101,7 +101,7 @@ impl Keeping {
     }
 
     // Keeps a moment if enough was done since the last.
-    fn note(&mut self, here: &Progress, work: u64) -> Result<(), NoMemory>
+    fn note(&mut self, here: &RecordCursor, work: u64) -> Result<(), NoMemory>
         ensures { OnOk result (KeepsOf here.now self.old.kept.items self.new.kept.items) }
     {
         self.since = self.since.saturating_add(work);
@@ -113,15 +113,19 @@ impl Keeping {
     }
 
     // Does events that are left of a line, keeps a moment after them if enough was done, and gives the answer.
-    fn go_on<M: StepMeter>(&mut self, here: &mut Progress, meter: &mut M) -> Result<Reply, LineStop>
-        ensures progress { IfOk result (λ reply. GoesOn here.old here.new) }
+    fn go_on<M: StepMeter>(
+        &mut self,
+        here: &mut RecordCursor,
+        meter: &mut M,
+    ) -> Result<Reply, LineStop>
+        ensures cursor { IfOk result (λ reply. GoesOn here.old here.new) }
         ensures kept { IfOk result (λ reply. KeepsOf here.new self.old.kept.items self.new.kept.items) }
         ensures less { IfOk result (λ reply. here.new.rest.times < here.old.rest.times) }
         ensures next { IfOk result (λ reply. here.new.next ≡ here.old.next) }
     {
-        let before = here.follower.recorded_events();
+        let before = here.replayed.recorded_events();
         let outcome = here.go_on(self.most(), meter)?;
-        self.note(here, work_of(here.follower.recorded_events() - before))?;
+        self.note(here, work_of(here.replayed.recorded_events() - before))?;
         Ok(outcome.reply)
     }
 
@@ -129,11 +133,11 @@ impl Keeping {
     fn finish_line<M: StepMeter>(
         &mut self,
         alloc: Global,
-        here: &mut Progress,
+        here: &mut RecordCursor,
         line: &RecordedLine,
         meter: &mut M,
     ) -> Result<(), LineStop>
-        ensures progress { OnOk result (GoesOn here.old here.new) }
+        ensures cursor { OnOk result (GoesOn here.old here.new) }
         ensures kept { OnOk result (KeepsOf here.old self.old.kept.items self.new.kept.items) }
         ensures rest { OnOk result (here.new.rest.times ≡ 0) }
         ensures next { OnOk result (here.new.next ≡ here.old.next) }
@@ -152,16 +156,16 @@ impl Keeping {
         plan: &AcceptedPlan,
         lines: &[RecordedLine],
         meter: &mut M,
-    ) -> Result<Progress, RecordStop>
+    ) -> Result<RecordCursor, RecordStop>
         requires one { length plan.now ≡ 1 }
-        requires none { All (IsProgress plan.now (said_by lines.now)) self.old.kept.items }
-        ensures progress { IfOk result (λ here. IsProgress plan.now (said_by lines.now) here) }
-        ensures end { IfOk result (λ here. IsMomentAt plan.now (said_by lines.now) (length (all_said (said_by lines.now))) here.follower) }
-        ensures kept { IfOk result (λ here. All (IsProgress plan.now (said_by lines.now)) self.new.kept.items) }
+        requires none { All (IsCursor plan.now (said_by lines.now)) self.old.kept.items }
+        ensures cursor { IfOk result (λ here. IsCursor plan.now (said_by lines.now) here) }
+        ensures end { IfOk result (λ here. IsMomentAt plan.now (said_by lines.now) (length (all_said (said_by lines.now))) here.replayed) }
+        ensures kept { IfOk result (λ here. All (IsCursor plan.now (said_by lines.now)) self.new.kept.items) }
     {
         // If nothing is left of a record, all its calls were done.
-        progress_ends();
-        let mut here = Progress::open(alloc, plan)?;
+        cursor_ends();
+        let mut here = RecordCursor::open(alloc, plan)?;
         while here.next < lines.len() {
             let line = lines[here.next];
             here.begin_line(lines);
@@ -174,15 +178,15 @@ impl Keeping {
 }
 
 // The kept moment nearest to an event that doesn't come after it.
-fn nearest<'b>(opening: &'b Progress, kept: &'b [Progress], event: u64) -> &'b Progress
-    requires { opening.now.follower.recorded ≤ event }
-    ensures progress { IsOfKept opening.now kept.now result.now }
-    ensures before { result.now.follower.recorded ≤ event }
+fn nearest<'b>(opening: &'b RecordCursor, kept: &'b [RecordCursor], event: u64) -> &'b RecordCursor
+    requires { opening.now.replayed.recorded ≤ event }
+    ensures cursor { IsOfKept opening.now kept.now result.now }
+    ensures before { result.now.replayed.recorded ≤ event }
 {
     let mut found = opening;
-    for progress in kept {
-        if progress.follower.recorded_events() <= event {
-            found = progress;
+    for cursor in kept {
+        if cursor.replayed.recorded_events() <= event {
+            found = cursor;
         }
     }
     found
@@ -190,13 +194,18 @@ fn nearest<'b>(opening: &'b Progress, kept: &'b [Progress], event: u64) -> &'b P
 
 // Begins at the moment that is shown, if that is one of the record, doesn't come after the event and doesn't come before
 // the kept moment. Else begins at the kept moment.
-fn begin(here: &mut Progress, is_led: bool, near: &Progress, event: u64) -> Result<(), NoMemory>
-    requires { near.now.follower.recorded ≤ event }
-    ensures progress { OnOk result (Begins is_led here.old near.now here.new) }
-    ensures before { OnOk result (here.new.follower.recorded ≤ event) }
+fn begin(
+    here: &mut RecordCursor,
+    is_led: bool,
+    near: &RecordCursor,
+    event: u64,
+) -> Result<(), NoMemory>
+    requires { near.now.replayed.recorded ≤ event }
+    ensures cursor { OnOk result (Begins is_led here.old near.now here.new) }
+    ensures before { OnOk result (here.new.replayed.recorded ≤ event) }
 {
-    let recorded = here.follower.recorded_events();
-    if is_led && recorded <= event && recorded >= near.follower.recorded_events() {
+    let recorded = here.replayed.recorded_events();
+    if is_led && recorded <= event && recorded >= near.replayed.recorded_events() {
         return Ok(());
     }
     *here = near.copy()?;
@@ -228,14 +237,14 @@ impl<'a> Timeline<'a> {
             gap: gap_of(lines.as_slice()),
             since: 0,
         };
-        let opening = Progress::open(alloc, &plan)?;
+        let opening = RecordCursor::open(alloc, &plan)?;
         let here = keeping.do_lines(alloc, &plan, lines.as_slice(), meter)?;
         let Keeping { kept, .. } = keeping;
         Ok(Timeline {
             plan,
             lines,
             is_cut,
-            events: here.follower.recorded_events(),
+            events: here.replayed.recorded_events(),
             opening,
             kept,
             here,
@@ -269,10 +278,10 @@ impl<'a> Timeline<'a> {
     }
 
     /// The domain at the moment that is shown, and what was noted on the way to it.
-    pub fn here(&self) -> &Follower
+    pub fn here(&self) -> &ReplayedDomain
         ensures { result.now ≡ self.now.here }
     {
-        &self.here.follower
+        &self.here.replayed
     }
 
     /// What waits at a virtual port at the moment that is shown. `None` if there is no such port. Nothing changes.
@@ -280,8 +289,8 @@ impl<'a> Timeline<'a> {
         ensures state { IfSome result (λ state. IsPortState self.old.here.machine.part (machine_of self.old.here.machine) port state) }
         ensures unchanged { self.new ≡ self.old }
     {
-        if port < self.here.follower.part().count() {
-            Some(self.here.follower.port_state(port))
+        if port < self.here.replayed.part().count() {
+            Some(self.here.replayed.port_state(port))
         } else {
             None
         }
@@ -303,7 +312,7 @@ impl<'a> Timeline<'a> {
         ensures { result ≤ event }
     {
         nearest(&self.opening, self.kept.as_slice(), event)
-            .follower
+            .replayed
             .recorded_events()
     }
 

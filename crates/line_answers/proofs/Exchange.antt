@@ -17,7 +17,7 @@ use Rattle.domain_core.specs.declared.event.Event.TheVariants as event
 use Rattle.domain_core.specs.declared.event.Reply.{Reply}
 use Rattle.domain_core.specs.declared.event.Refusal.{Refusal}
 use Rattle.domain_core.specs.declared.event.Refusal.TheVariants.{NoSuch, JournalFull, NoMemory}
-use Rattle.domain_core.specs.declared.event.Told.{Told}
+use Rattle.domain_core.specs.declared.event.AnsweredCommand.{AnsweredCommand}
 use Rattle.farm_service.specs.Answers.{IsTold}
 use Rattle.farm_service.specs.Passes.{SessionValue, with_told, Gains}
 use Rattle.answer_text.specs.Results.{replies_told}
@@ -26,53 +26,56 @@ use Rattle.line_answers.specs.Asks.{next_config, next_write, next_read, next_col
 use Rattle.line_answers.specs.Sessions.{HasMetFull, with_all, HasGained, AsksJust}
 
 -- an event with its reply
-abbrev pub told_of : Event → Reply → Told
+abbrev pub told_of : Event → Reply → AnsweredCommand
 told_of event reply = record { event = event; reply = reply }
 
-asked_more : (next : List Told → Option Event) (before told : List Told) (other_told : Told)
+asked_more : (next : List AnsweredCommand → Option Event) (before told : List AnsweredCommand)
+    (other_told : AnsweredCommand)
     → AreAsked next before told → next (before ++ told) ≡ Some other_told.event
     → AreAsked next before (told ++ other_told ∷ [])
 asked_more next before [] other_told given same = (
-  subst (λ (b : List Told). next b ≡ Some other_told.event)
+  subst (λ (b : List AnsweredCommand). next b ≡ Some other_told.event)
       (append-nil before) same,
   tt,
 )
 asked_more next before (u ∷ told) other_told given same = (
   given.0,
   asked_more next (before ++ u ∷ []) told other_told given.1
-      (subst (λ (b : List Told). next b ≡ Some other_told.event) (sym (append_assoc before (u ∷ []) told)) same),
+      (subst (λ (b : List AnsweredCommand). next b ≡ Some other_told.event)
+      (sym (append_assoc before (u ∷ []) told)) same),
 )
 
 -- ---- what a session gains
 
 -- the session with this list, and whether its user has met a journal that is full, or nearly full
-abbrev pub with_list : SessionValue → List Told → Bool → Bool → SessionValue
+abbrev pub with_list : SessionValue → List AnsweredCommand → Bool → Bool → SessionValue
 with_list s list full nearly_full =
     record s { pass = record s.pass { told = list; met_full = full; met_nearly_full = nearly_full } }
 
 -- the same session by equal notes
-pub same_notes : (s : SessionValue) (told : List Told) (full other_full near other_near : Bool) → full ≡ other_full
+pub same_notes : (s : SessionValue) (told : List AnsweredCommand) (full other_full near other_near : Bool)
+    → full ≡ other_full
     → near ≡ other_near → with_all s told full near ≡ with_all s told other_full other_near
 same_notes s told full other_full near other_near same same_near =
     ap (λ (b : Bool). with_all s told b near) same ∙ ap (λ (b : Bool). with_all s told other_full b) same_near
 
 -- one event more
-gained_more : (s t session : SessionValue) (told : List Told) (e : Event) (r : Reply)
+gained_more : (s t session : SessionValue) (told : List AnsweredCommand) (e : Event) (r : Reply)
     → HasGained s t told → Gains t e (Ok r) session → HasGained s session (told ++ told_of e r ∷ [])
 gained_more s t session told e r so_far gains =
     let same : session.pass.met_full ≡ t.pass.met_full = ap (λ (v : SessionValue). v.pass.met_full) gains in
     let same_nearly : session.pass.met_nearly_full ≡ t.pass.met_nearly_full =
     ap (λ (v : SessionValue). v.pass.met_nearly_full) gains in
-    let told_all : List Told = told ++ told_of e r ∷ [] in record {
+    let told_all : List AnsweredCommand = told ++ told_of e r ∷ [] in record {
       list = gains ∙ ap (λ (v : SessionValue). record v { pass = with_told v.pass e r }) so_far.list
-          ∙ ap (λ (list : List Told). with_list s list t.pass.met_full t.pass.met_nearly_full)
+          ∙ ap (λ (list : List AnsweredCommand). with_list s list t.pass.met_full t.pass.met_nearly_full)
           (append_assoc s.pass.told told (told_of e r ∷ []))
           ∙ same_notes s told_all _ _ _ _ (sym same) (sym same_nearly);
       full = λ met. same ∙ so_far.full met;
       nearly_full = λ met. same_nearly ∙ so_far.nearly_full met;
     }
 
--- whoever is refused for a full journal has met it
+-- anyone who is refused for a full journal has met it
 now_met : (t session : SessionValue) (e : Event) (refusal : Refusal) → Gains t e (Err refusal) session
     → refusal ≡ JournalFull → HasMetFull session
 now_met t session e refusal same is =
@@ -80,7 +83,7 @@ now_met t session e refusal same is =
     (subst (λ (r : Refusal). Gains t e (Err r) session) is same)
 
 -- nothing by a refusal
-gained_still : (s t session : SessionValue) (told : List Told) (e : Event) (refusal : Refusal)
+gained_still : (s t session : SessionValue) (told : List AnsweredCommand) (e : Event) (refusal : Refusal)
     → HasGained s t told → Gains t e (Err refusal) session → HasGained s session told
 gained_still s t session told e NoSuch so_far same =
     subst (λ (v : SessionValue). HasGained s v told) (sym same) so_far
@@ -96,7 +99,7 @@ gained_still s t session told e JournalFull so_far same =
       nearly_full = λ before. same_nearly ∙ so_far.nearly_full before;
     }
 
--- what a session is told, it is told after a refusal too
+-- what a session is answered, it is answered after a refusal too
 told_still : (t session : SessionValue) (e : Event) (refusal : Refusal) → Gains t e (Err refusal) session
     → IsTold t e (Err refusal) → IsTold session e (Err refusal)
 told_still t session e NoSuch same is = subst (λ (v : SessionValue). IsTold v e (Err NoSuch)) (sym same) is
@@ -104,12 +107,14 @@ told_still t session e JournalFull same is = subst (λ (v : SessionValue). IsTol
 told_still t session e NoMemory same is = tt
 
 -- a session has asked this so far
-pub record IsAsking (next : List Told → Option Event) (s t : SessionValue) (told : List Told) : Type 0 where
+pub record IsAsking (next : List AnsweredCommand → Option Event) (s t : SessionValue)
+    (told : List AnsweredCommand) : Type 0 where
   pub gains : HasGained s t told
   pub asked : AreAsked next [] told
 
 -- one event more
-pub grown : (next : List Told → Option Event) (s t session : SessionValue) (told : List Told) (e : Event) (r : Reply)
+pub grown : (next : List AnsweredCommand → Option Event) (s t session : SessionValue) (told : List AnsweredCommand)
+    (e : Event) (r : Reply)
     → IsAsking next s t told
     → next told ≡ Some e → Gains t e (Ok r) session → IsAsking next s session (told ++ told_of e r ∷ [])
 grown next s t session told e r so_far same gains = record {
@@ -118,13 +123,15 @@ grown next s t session told e r so_far same gains = record {
 }
 
 -- the end, and a refusal
-pub ended : {A : Type 0} (next : List Told → Option Event) (s t : SessionValue) (told : List Told) (a : A)
+pub ended : {A : Type 0} (next : List AnsweredCommand → Option Event) (s t : SessionValue)
+    (told : List AnsweredCommand) (a : A)
     → IsAsking next s t told → next told ≡ None
     → AsksJust next s (Ok a) t
 ended next s t told a so_far same = record { told = told; gains = so_far.gains; asked = so_far.asked; ended = same }
 
 -- an exchange ends with an error if the service refuses what is asked next
-pub refused : {A : Type 0} (next : List Told → Option Event) (s t session : SessionValue) (told : List Told) (e : Event)
+pub refused : {A : Type 0} (next : List AnsweredCommand → Option Event) (s t session : SessionValue)
+    (told : List AnsweredCommand) (e : Event)
     (refusal : Refusal) (result : Result A Refusal)
     → IsAsking next s t told
     → next told ≡ Some e → Gains t e (Err refusal) session → IsTold t e (Err refusal)
@@ -140,10 +147,11 @@ refused next s t session told e refusal result so_far equal same is returned =
     })
 
 -- before anything is asked
-pub begun : (next : List Told → Option Event) (s : SessionValue) → IsAsking next s s []
+pub begun : (next : List AnsweredCommand → Option Event) (s : SessionValue) → IsAsking next s s []
 begun next s = record {
   gains = record {
-    list = ap (λ (told : List Told). record s { pass = record s.pass { told = told } }) (sym (append-nil s.pass.told));
+    list = ap (λ (told : List AnsweredCommand). record s { pass = record s.pass { told = told } })
+        (sym (append-nil s.pass.told));
     full = λ met. met;
     nearly_full = λ met. met;
   };
@@ -155,13 +163,13 @@ one_longer xs x i is = length-append xs (x ∷ []) ∙ ap (λ (n : ℕ). n + 1) 
 
 -- ---- bytes for the switch
 
--- so many configuration bytes were asked, and each was answered
+-- that many configuration bytes were asked, and each was answered
 pub record IsConfiguring (bytes : List ℕ) (s t : SessionValue) (i : ℕ) : Type 0 where
-  pub told : List Told
+  pub told : List AnsweredCommand
   pub so_far : IsAsking (next_config bytes) s t told
   pub count : length told ≡ i
 
-config_next : (bytes : List ℕ) (told : List Told) (i : ℕ) → length told ≡ i → i < length bytes
+config_next : (bytes : List ℕ) (told : List AnsweredCommand) (i : ℕ) → length told ≡ i → i < length bytes
     → next_config bytes told ≡ Some (event.Config (get_or bytes i 0))
 config_next bytes told i count within =
     ap (λ (n : ℕ). option_map event.Config (slice_get bytes n)) count
@@ -207,13 +215,13 @@ config_refused bytes s t session i refusal result was within same is returned =
 
 -- ---- bytes for a host
 
-writes_more : (host byte : ℕ) (told : List Told) (r : Reply)
+writes_more : (host byte : ℕ) (told : List AnsweredCommand) (r : Reply)
     → write_replies (told ++ told_of (event.Write host byte) r ∷ []) ≡ write_replies told ++ r ∷ []
 writes_more host byte told r =
     ap replies_told (filter-append (λ t. is_write t.event) told (told_of (event.Write host byte) r ∷ []))
     ∙ map-append (λ t. t.reply) (filter (λ t. is_write t.event) told) (told_of (event.Write host byte) r ∷ [])
 
-reads_more : (host : ℕ) (told : List Told) (r : Reply)
+reads_more : (host : ℕ) (told : List AnsweredCommand) (r : Reply)
     → read_replies (told ++ told_of (event.Read host) r ∷ []) ≡ read_replies told ++ r ∷ []
 reads_more host told r =
     ap replies_told (filter-append (λ t. is_read t.event) told (told_of (event.Read host) r ∷ []))
@@ -221,12 +229,12 @@ reads_more host told r =
 
 -- the host had room so far
 pub record IsWriting (host : ℕ) (bytes : List ℕ) (s t : SessionValue) (i : ℕ) : Type 0 where
-  pub told : List Told
+  pub told : List AnsweredCommand
   pub so_far : IsAsking (next_write host bytes) s t told
   pub room : list_any had_no_room (write_replies told) ≡ false
   pub count : length (write_replies told) ≡ i
 
-write_next : (host : ℕ) (bytes : List ℕ) (told : List Told) (i : ℕ)
+write_next : (host : ℕ) (bytes : List ℕ) (told : List AnsweredCommand) (i : ℕ)
     → list_any had_no_room (write_replies told) ≡ false → length (write_replies told) ≡ i
     → i < length bytes
     → next_write host bytes told ≡ Some (event.Write host (get_or bytes i 0))
@@ -299,12 +307,12 @@ write_refused host bytes s t session i refusal result was within same is returne
 
 -- each read brought a byte so far
 pub record IsReading (host count : ℕ) (s t : SessionValue) (i : ℕ) : Type 0 where
-  pub told : List Told
+  pub told : List AnsweredCommand
   pub so_far : IsAsking (next_read host count) s t told
   pub bytes : list_all is_byte (read_replies told) ≡ true
   pub so_many : length (read_replies told) ≡ i
 
-read_next : (host count : ℕ) (told : List Told) (i : ℕ)
+read_next : (host count : ℕ) (told : List AnsweredCommand) (i : ℕ)
     → list_all is_byte (read_replies told) ≡ true → length (read_replies told) ≡ i
     → i < count
     → next_read host count told ≡ Some (event.Read host)
@@ -345,7 +353,7 @@ read_none host count s t session i r a was within gains none =
     (read_next host count was.told i was.bytes was.so_many within) gains)
     (rw over refl)
 
--- so many bytes came as were asked for
+-- that many bytes came as were asked for
 pub read_ended : {A : Type 0} (host count : ℕ) (s t : SessionValue) (a : A) → IsReading host count s t count
     → AsksJust (next_read host count) s (Ok a) t
 read_ended host count s t a was =
@@ -366,7 +374,7 @@ read_refused host count s t session i refusal result was within same is returned
 
 -- the same of all bytes
 pub record IsCollecting (host : ℕ) (s t : SessionValue) : Type 0 where
-  pub told : List Told
+  pub told : List AnsweredCommand
   pub so_far : IsAsking (next_collect host) s t told
   pub bytes : list_all is_byte (read_replies told) ≡ true
 
@@ -374,7 +382,7 @@ pub record IsCollecting (host : ℕ) (s t : SessionValue) : Type 0 where
 pub collect_begun : (host : ℕ) (s : SessionValue) → IsCollecting host s s
 collect_begun host s = record { told = []; so_far = begun (next_collect host) s; bytes = refl }
 
-collect_next : (host : ℕ) (told : List Told) → list_all is_byte (read_replies told) ≡ true
+collect_next : (host : ℕ) (told : List AnsweredCommand) → list_all is_byte (read_replies told) ≡ true
     → next_collect host told ≡ Some (event.Read host)
 collect_next host told bytes = rw bytes refl
 
@@ -418,7 +426,7 @@ collect_refused host s t session refusal result was same is returned =
 
 -- ---- one event
 
--- an event that is taken or refused is just what is asked
+-- an event that is taken or refused is exactly what is asked
 pub once_asked : {A : Type 0} (e : Event) (s t : SessionValue) (answer : Result Reply Refusal) (a : A)
     (result : Result A Refusal) → IsTold s e answer
     → Gains s e answer t

@@ -22,7 +22,7 @@ use Rattle.domain_core.specs.declared.event.Reply.{Reply}
 use Rattle.domain_core.specs.declared.event.Refusal.{Refusal}
 use Rattle.domain_core.specs.declared.event.Refusal.TheVariants.{NoSuch, JournalFull, NoMemory}
 use Rattle.farm_service.specs.Answers.{IsTold}
-use Rattle.domain_core.specs.declared.event.Told.{Told}
+use Rattle.domain_core.specs.declared.event.AnsweredCommand.{AnsweredCommand}
 use Rattle.farm_service.specs.Closed.{IsFull, IsNearlyFull}
 use Rattle.farm_service.specs.Passes.{SessionValue, with_nearly_full}
 use Rattle.script_lines.specs.declared.command.Command.{Command}
@@ -39,8 +39,9 @@ use Rattle.line_answers.specs.Sessions.{IsAnswered, AreAnswered}
 
 -- ---- what is asked by one rule is asked by another
 
-asked_as : (make other_make : List Told → Option Event)
-    → ((told : List Told) (e : Event) → make told ≡ Some e → other_make told ≡ Some e) → (before told : List Told)
+asked_as : (make other_make : List AnsweredCommand → Option Event)
+    → ((told : List AnsweredCommand) (e : Event) → make told ≡ Some e → other_make told ≡ Some e)
+    → (before told : List AnsweredCommand)
     → AreAsked make before told
     → AreAsked other_make before told
 asked_as make other_make same before [] asked = tt
@@ -48,29 +49,30 @@ asked_as make other_make same before (t ∷ told) asked =
     (same before t.event asked.0, asked_as make other_make same (before ++ t ∷ []) told asked.1)
 
 -- what is asked after other events
-asked_behind : (make other_make : List Told → Option Event) (first : List Told)
-    → ((told : List Told) (e : Event) → make told ≡ Some e → other_make (first ++ told) ≡ Some e)
-    → (before told : List Told) → AreAsked make before told → AreAsked other_make (first ++ before) told
+asked_behind : (make other_make : List AnsweredCommand → Option Event) (first : List AnsweredCommand)
+    → ((told : List AnsweredCommand) (e : Event) → make told ≡ Some e → other_make (first ++ told) ≡ Some e)
+    → (before told : List AnsweredCommand) → AreAsked make before told → AreAsked other_make (first ++ before) told
 asked_behind make other_make first same before [] asked = tt
 asked_behind make other_make first same before (t ∷ told) asked = (
   same before t.event asked.0,
-  subst (λ (b : List Told). AreAsked other_make b told) (sym (append_assoc first before (t ∷ [])))
+  subst (λ (b : List AnsweredCommand). AreAsked other_make b told) (sym (append_assoc first before (t ∷ [])))
       (asked_behind make other_make first same (before ++ t ∷ []) told asked.1),
 )
 
-asked_append : (next : List Told → Option Event) (before xs ys : List Told)
+asked_append : (next : List AnsweredCommand → Option Event) (before xs ys : List AnsweredCommand)
     → AreAsked next before xs → AreAsked next (before ++ xs) ys
     → AreAsked next before (xs ++ ys)
-asked_append next before [] ys some more = subst (λ (b : List Told). AreAsked next b ys) (append-nil before) more
+asked_append next before [] ys some more = subst (λ (b : List AnsweredCommand). AreAsked next b ys)
+    (append-nil before) more
 asked_append next before (x ∷ xs) ys some more = (
   some.0,
   asked_append next (before ++ x ∷ []) xs ys some.1
-      (subst (λ (b : List Told). AreAsked next b ys) (sym (append_assoc before (x ∷ []) xs)) more),
+      (subst (λ (b : List AnsweredCommand). AreAsked next b ys) (sym (append_assoc before (x ∷ []) xs)) more),
 )
 
 -- ---- a line of one part
 
--- a command that asks just its events asks its line
+-- a command that asks exactly its events asks its line
 pub whole : {A : Type 0} (c : Command) (s t : SessionValue) (outcome : Result A Refusal)
     → AsksJust (next_event c) s outcome t
     → AsksLine c s outcome t
@@ -78,14 +80,15 @@ whole c s t (Ok a) asks = record { told = asks.told; gains = asks.gains; asked =
 whole c s t (Err refusal) asks =
     record { told = asks.told; gains = asks.gains; asked = asks.asked; ended = inl asks.ended }
 
--- want of memory is no full journal
+-- being out of memory is no full journal
 no_full : NoMemory ≡ JournalFull → ⊥
 no_full is = cc
 
 -- ---- code
 
-same_asks : {A : Type 0} (make other_make : List Told → Option Event) (s t : SessionValue) (outcome : Result A Refusal)
-    → ((told : List Told) → other_make told ≡ make told) → AsksJust make s outcome t
+same_asks : {A : Type 0} (make other_make : List AnsweredCommand → Option Event) (s t : SessionValue)
+    (outcome : Result A Refusal)
+    → ((told : List AnsweredCommand) → other_make told ≡ make told) → AsksJust make s outcome t
     → AsksJust other_make s outcome t
 same_asks make other_make s t (Ok a) same asks = record {
   told = asks.told;
@@ -100,7 +103,7 @@ same_asks make other_make s t (Err refusal) same asks = record {
   ended = (asks.ended.0, same asks.told ∙ asks.ended.1, asks.ended.2, asks.ended.3);
 }
 
-boot_is_written : (host : ℕ) (code : List ℕ) → 2 ≤ length code → length code ≤ 255 → (told : List Told)
+boot_is_written : (host : ℕ) (code : List ℕ) → 2 ≤ length code → length code ≤ 255 → (told : List AnsweredCommand)
     → next_boot host code told ≡ next_write host (length code ∷ code) told
 boot_is_written host code long short told = rw (le-leb 2 (length code) long) (rw (le-leb (length code) 255 short) refl)
 
@@ -126,12 +129,12 @@ code_refused host code s long short = record {
 
 -- ---- a peek
 
-writes-append : (xs ys : List Told) → write_replies (xs ++ ys) ≡ write_replies xs ++ write_replies ys
+writes-append : (xs ys : List AnsweredCommand) → write_replies (xs ++ ys) ≡ write_replies xs ++ write_replies ys
 writes-append xs ys =
     ap replies_told (filter-append (λ t. is_write t.event) xs ys)
     ∙ map-append (λ t. t.reply) (filter (λ t. is_write t.event) xs) (filter (λ t. is_write t.event) ys)
 
-reads-append : (xs ys : List Told) → read_replies (xs ++ ys) ≡ read_replies xs ++ read_replies ys
+reads-append : (xs ys : List AnsweredCommand) → read_replies (xs ++ ys) ≡ read_replies xs ++ read_replies ys
 reads-append xs ys =
     ap replies_told (filter-append (λ t. is_read t.event) xs ys)
     ∙ map-append (λ t. t.reply) (filter (λ t. is_read t.event) xs) (filter (λ t. is_read t.event) ys)
@@ -155,7 +158,7 @@ over_after host bytes true more count plus over = refl
 over_after host bytes false true count plus over = refl
 over_after host bytes false false count plus over = past_end host bytes count plus over
 
-writes_over : (host : ℕ) (bytes : List ℕ) (xs ys : List Told) → next_write host bytes xs ≡ None
+writes_over : (host : ℕ) (bytes : List ℕ) (xs ys : List AnsweredCommand) → next_write host bytes xs ≡ None
     → next_write host bytes (xs ++ ys) ≡ None
 unfolding after_writes
 writes_over host bytes xs ys over =
@@ -187,7 +190,8 @@ no_read : (host : ℕ) (full : Bool) (byte : Option ℕ) (e : Event)
 unfolding reads_next
 no_read host full byte e is = sym (ap reads_next is) ∙ no_read_next host full byte
 
-no_reads : (host : ℕ) (bytes : List ℕ) (before told : List Told) → AreAsked (next_write host bytes) before told
+no_reads : (host : ℕ) (bytes : List ℕ) (before told : List AnsweredCommand)
+    → AreAsked (next_write host bytes) before told
     → read_replies told ≡ []
 no_reads host bytes before [] asked = refl
 no_reads host bytes before (t ∷ told) asked =
@@ -198,7 +202,8 @@ no_reads host bytes before (t ∷ told) asked =
 -- ---- a peek
 
 -- after its writes a peek reads
-reads_behind : (host address : ℕ) (xs ys : List Told) → AreAsked (next_write host (1 ∷ bytes_of_word address)) [] xs
+reads_behind : (host address : ℕ) (xs ys : List AnsweredCommand)
+    → AreAsked (next_write host (1 ∷ bytes_of_word address)) [] xs
     → next_write host (1 ∷ bytes_of_word address) xs ≡ None
     → next_event (command.Peek host address) (xs ++ ys) ≡ next_read host 4 ys
 reads_behind host address xs ys asked over =
@@ -208,24 +213,25 @@ reads_behind host address xs ys asked over =
     (reads-append xs ys
     ∙ ap (λ (rs : List Reply). rs ++ read_replies ys) (no_reads host (1 ∷ bytes_of_word address) [] xs asked))
 
-writes_of_peek : (host address : ℕ) (told : List Told) (e : Event)
+writes_of_peek : (host address : ℕ) (told : List AnsweredCommand) (e : Event)
     → next_write host (1 ∷ bytes_of_word address) told ≡ Some e
     → next_event (command.Peek host address) told ≡ Some e
 writes_of_peek host address told e is = ap (λ (first : Option Event). option_or first (next_read host 4 told)) is
 
-joined : (s t session : SessionValue) (xs ys : List Told) → HasGained s t xs → HasGained t session ys
+joined : (s t session : SessionValue) (xs ys : List AnsweredCommand) → HasGained s t xs → HasGained t session ys
     → HasGained s session (xs ++ ys)
 joined s t session xs ys first second = record {
   list = second.list
       ∙ ap (λ (v : SessionValue). with_all v ys session.pass.met_full session.pass.met_nearly_full) first.list
-      ∙ ap (λ (list : List Told). with_list s list session.pass.met_full session.pass.met_nearly_full)
+      ∙ ap (λ (list : List AnsweredCommand). with_list s list session.pass.met_full session.pass.met_nearly_full)
       (append_assoc s.pass.told xs ys);
   full = λ met. second.full (first.full met);
   nearly_full = λ met. second.nearly_full (first.nearly_full met);
 }
 
-peek_end : {A : Type 0} (host address : ℕ) (xs ys : List Told) (session : SessionValue) (outcome : Result A Refusal)
-    → ((told : List Told) → next_event (command.Peek host address) (xs ++ told) ≡ next_read host 4 told)
+peek_end : {A : Type 0} (host address : ℕ) (xs ys : List AnsweredCommand) (session : SessionValue)
+    (outcome : Result A Refusal)
+    → ((told : List AnsweredCommand) → next_event (command.Peek host address) (xs ++ told) ≡ next_read host 4 told)
     → HasEnded (next_read host 4) ys session outcome
     → HasEnded (next_event (command.Peek host address)) (xs ++ ys) session outcome
 peek_end host address xs ys session (Ok a) same over = same ys ∙ over
@@ -237,7 +243,7 @@ pub peeked : {A B : Type 0} (host address : ℕ) (s t session : SessionValue) (a
     → AsksJust (next_read host 4) t outcome session
     → AsksJust (next_event (command.Peek host address)) s outcome session
 peeked host address s t session a outcome writes reads =
-    let same : (told : List Told)
+    let same : (told : List AnsweredCommand)
     → next_event (command.Peek host address) (writes.told ++ told) ≡ next_read host 4 told =
     λ told. reads_behind host address writes.told told writes.asked writes.ended in record {
       told = writes.told ++ reads.told;
@@ -246,7 +252,7 @@ peeked host address s t session a outcome writes reads =
           asked_append (next_event (command.Peek host address)) [] writes.told reads.told
           (asked_as (next_write host (1 ∷ bytes_of_word address)) (next_event (command.Peek host address))
           (writes_of_peek host address) [] writes.told writes.asked)
-          (subst (λ (b : List Told). AreAsked (next_event (command.Peek host address)) b reads.told)
+          (subst (λ (b : List AnsweredCommand). AreAsked (next_event (command.Peek host address)) b reads.told)
           (append-nil writes.told)
           (asked_behind (next_read host 4) (next_event (command.Peek host address)) writes.told
           (λ told e is. same told ∙ is) [] reads.told reads.asked));
@@ -291,7 +297,7 @@ peek_out_of_memory host address s t a writes = record {
 }
 
 -- the user of a session has met a journal that is nearly full, and its list stays
-now_nearly_full : (s t session : SessionValue) (told : List Told) → HasGained s t told
+now_nearly_full : (s t session : SessionValue) (told : List AnsweredCommand) → HasGained s t told
     → session ≡ record t { pass = with_nearly_full t.pass } → HasGained s session told
 now_nearly_full s t session told so_far is =
     let met : HasMetNearlyFull session = ap (λ (v : SessionValue). v.pass.met_nearly_full) is in
@@ -372,10 +378,11 @@ settled {A} {B} host address bytes s t session a outcome other_outcome bytes_are
     reads)
 
 -- a command asks its line by what it asks next, if that is what the line asks next
-pub of_command : {A : Type 0} (next : List Told → Option Event) (c other_command : Command) (s t : SessionValue)
+pub of_command : {A : Type 0} (next : List AnsweredCommand → Option Event) (c other_command : Command)
+    (s t : SessionValue)
     (outcome : Result A Refusal)
     → c ≡ other_command
-    → ((told : List Told) → next_event other_command told ≡ next told) → AsksJust next s outcome t
+    → ((told : List AnsweredCommand) → next_event other_command told ≡ next told) → AsksJust next s outcome t
     → AsksLine c s outcome t
 of_command next c other_command s t outcome is same asks =
     subst (λ (c : Command). AsksLine c s outcome t) (sym is)
@@ -384,7 +391,8 @@ of_command next c other_command s t outcome is same asks =
 -- ---- a line's end, for its session at the beginning and whatever says that the journal is full
 
 -- a line that ran out of memory has no end
-line_end : {A : Type 0} (c : Command) (told gained : List Told) (s t : SessionValue) (outcome : Result A Refusal)
+line_end : {A : Type 0} (c : Command) (told gained : List AnsweredCommand) (s t : SessionValue)
+    (outcome : Result A Refusal)
     → HasGained s t gained → IsOver c told t outcome → outcome ≢ Err NoMemory
     → LineHasEnded (HasMetFull t) (HasMetNearlyFull t) s c told outcome
 line_end c told gained s t (Ok a) gains over fine = over
@@ -423,7 +431,8 @@ answered name c s t outcome asks screen more fine is = record {
   text = is;
 }
 
-end_for : {A : Type 0} (P near : Type 0) (c : Command) (told : List Told) (s : SessionValue) (before : List Told)
+end_for : {A : Type 0} (P near : Type 0) (c : Command) (told : List AnsweredCommand) (s : SessionValue)
+    (before : List AnsweredCommand)
     (full nearly_full : Bool) (outcome : Result A Refusal)
     → LineHasEnded P near (with_all s before full nearly_full) c told outcome → LineHasEnded P near s c told outcome
 end_for P near c told s before full nearly_full (Ok a) over = over
@@ -431,7 +440,8 @@ end_for P near c told s before full nearly_full (Err NoSuch) over = over
 end_for P near c told s before full nearly_full (Err JournalFull) over = over
 end_for P near c told s before full nearly_full (Err NoMemory) over = over
 
-end_if : {A P near Q later : Type 0} → (P → Q) → (near → later) → (c : Command) (told : List Told) (s : SessionValue)
+end_if : {A P near Q later : Type 0} → (P → Q) → (near → later)
+    → (c : Command) (told : List AnsweredCommand) (s : SessionValue)
     (outcome : Result A Refusal)
     → LineHasEnded P near s c told outcome → LineHasEnded Q later s c told outcome
 end_if so also c told s (Ok a) over = over
@@ -449,8 +459,9 @@ end_if so also c told s (Err NoMemory) over = elim over [
 ]
 
 -- a line is answered for each session of its user
-line_for : (P near : Type 0) (s : SessionValue) (before : List Told) (full nearly_full : Bool) (name : List ℕ)
-    (c : Command) (told : List Told) (text : List ℕ)
+line_for : (P near : Type 0) (s : SessionValue) (before : List AnsweredCommand) (full nearly_full : Bool)
+    (name : List ℕ)
+    (c : Command) (told : List AnsweredCommand) (text : List ℕ)
     → IsAnsweredLine P near (with_all s before full nearly_full) name c told text
     → IsAnsweredLine P near s name c told text
 line_for P near s before full nearly_full name c told text line = record {
@@ -461,7 +472,7 @@ line_for P near s before full nearly_full name c told text line = record {
 }
 
 line_if : {P near Q later : Type 0} → (P → Q) → (near → later) → (s : SessionValue) (name : List ℕ) (c : Command)
-    (told : List Told) (text : List ℕ)
+    (told : List AnsweredCommand) (text : List ℕ)
     → IsAnsweredLine P near s name c told text → IsAnsweredLine Q later s name c told text
 line_if so also s name c told text line = record {
   result = line.result;
@@ -472,7 +483,7 @@ line_if so also s name c told text line = record {
 
 -- what some facts say of a journal that is full, or nearly full, others say that follow from them
 lines_if : {P near Q later : Type 0} → (P → Q) → (near → later) → (s : SessionValue) (name : List ℕ)
-    (commands : List Command) (told : List Told) (screen : List ℕ)
+    (commands : List Command) (told : List AnsweredCommand) (screen : List ℕ)
     → AreAnsweredLines P near s name commands told screen → AreAnsweredLines Q later s name commands told screen
 lines_if so also s name [] told screen lines = lines
 lines_if so also s name (c ∷ commands) told screen lines = (
@@ -498,7 +509,7 @@ full_is_said_truly plan closed s t name commands screen lines truly =
 -- ---- lines one after another
 
 lines_more : (P near : Type 0) (s : SessionValue) (name : List ℕ) (commands : List Command) (c : Command)
-    (told some : List Told) (screen line : List ℕ)
+    (told some : List AnsweredCommand) (screen line : List ℕ)
     → AreAnsweredLines P near s name commands told screen
     → IsAnsweredLine P near s name c some line
     → AreAnsweredLines P near s name (commands ++ c ∷ []) (told ++ some) (screen ++ line)
@@ -507,7 +518,7 @@ lines_more P near s name [] c told some screen line lines is = (
   [],
   line,
   [],
-  ap (λ (before : List Told). before ++ some) lines.0 ∙ sym (append-nil some),
+  ap (λ (before : List AnsweredCommand). before ++ some) lines.0 ∙ sym (append-nil some),
   ap (λ (before : List ℕ). before ++ line) lines.1 ∙ sym (append-nil line),
   is,
   (refl, refl),
@@ -517,7 +528,7 @@ lines_more P near s name (first ∷ commands) c told some screen line lines is =
   lines.1 ++ some,
   lines.2,
   lines.3 ++ line,
-  ap (λ (before : List Told). before ++ some) lines.4 ∙ append_assoc lines.0 lines.1 some,
+  ap (λ (before : List AnsweredCommand). before ++ some) lines.4 ∙ append_assoc lines.0 lines.1 some,
   ap (λ (before : List ℕ). before ++ line) lines.5 ∙ append_assoc lines.2 lines.3 line,
   lines.6,
   lines_more P near s name commands c lines.1 some lines.3 line lines.7 is,
@@ -527,7 +538,7 @@ lines_more P near s name (first ∷ commands) c told some screen line lines is =
 pub none_shown : (name : List ℕ) (s : SessionValue) → AreAnswered name [] s s []
 none_shown name s = record { told = []; gains = (begun (λ told. None) s).gains; lines = (refl, refl) }
 
--- commands and a further one show what the further one shows behind the screen of the others
+-- commands and a further one show what the further one shows after the screen of the others
 pub one_shown : (name : List ℕ) (commands : List Command) (c : Command) (s t session : SessionValue)
     (screen more : List ℕ)
     → AreAnswered name commands s t screen
@@ -576,7 +587,7 @@ gains_none s = ([], (begun (λ told. None) s).gains)
 
 -- a line whose events are the last of the list
 pub last_answered : {A E : Type 0} (outcome : Result A E) (name : List ℕ) (c : Command) (s t : SessionValue)
-    (other_outcome : Result ⊤ Refusal) (asks : AsksLine c s other_outcome t) (before all : List Told)
+    (other_outcome : Result ⊤ Refusal) (asks : AsksLine c s other_outcome t) (before all : List AnsweredCommand)
     (screen more : List ℕ) → before ≡ s.pass.told → all ≡ t.pass.told → OnOk outcome (other_outcome ≢ Err NoMemory)
     → OnOk outcome (more
     ≡ screen ++ line_text name c
@@ -585,14 +596,14 @@ pub last_answered : {A E : Type 0} (outcome : Result A E) (name : List ℕ) (c :
 last_answered (Err e) name c s t other_outcome asks before all screen more was is fine shown = tt
 last_answered (Ok a) name c s t other_outcome asks before all screen more was is fine shown =
     answered name c s t other_outcome asks screen more fine
-    (shown ∙ ap (λ (told : List Told). screen ++ line_text name c (replies_told told) other_outcome) last)
+    (shown ∙ ap (λ (told : List AnsweredCommand). screen ++ line_text name c (replies_told told) other_outcome) last)
   where
     whole_list : all ≡ s.pass.told ++ asks.told
     whole_list = is ∙ ap (λ (v : SessionValue). v.pass.told) asks.gains.list
 
     behind : drop (length before) all ≡ asks.told
     behind =
-        ap (λ (xs : List Told). drop (length xs) all) was ∙ ap (drop (length s.pass.told)) whole_list
+        ap (λ (xs : List AnsweredCommand). drop (length xs) all) was ∙ ap (drop (length s.pass.told)) whole_list
         ∙ drop-append_seam s.pass.told asks.told
 
     so_many : length asks.told ≤ length all - length before

@@ -7,7 +7,7 @@ use Rattle.domain_core.specs.declared.event.Event.{Event}
 use Rattle.domain_core.specs.declared.event.Event.TheVariants as event
 use Rattle.domain_core.specs.declared.event.Reply.{Reply}
 use Rattle.domain_core.specs.declared.event.Reply.TheVariants as reply
-use Rattle.domain_core.specs.declared.event.Told.{Told}
+use Rattle.domain_core.specs.declared.event.AnsweredCommand.{AnsweredCommand}
 use Rattle.answer_text.specs.Results.{replies_told}
 use Rattle.script_lines.specs.declared.command.Command.{Command}
 use Rattle.script_lines.specs.declared.command.Command.TheVariants as command
@@ -25,11 +25,11 @@ is_read (event.Read host) = true
 is_read e = false
 
 -- the replies to writes, in order
-abbrev pub write_replies : List Told → List Reply
+abbrev pub write_replies : List AnsweredCommand → List Reply
 write_replies told = replies_told (filter (λ t. is_write t.event) told)
 
 -- the replies to reads, in order
-abbrev pub read_replies : List Told → List Reply
+abbrev pub read_replies : List AnsweredCommand → List Reply
 read_replies told = replies_told (filter (λ t. is_read t.event) told)
 
 -- whether a host had no room for a byte
@@ -45,39 +45,39 @@ is_byte r = false
 -- ---- what is asked next
 
 -- bytes for the switch: all of them
-abbrev pub next_config : List ℕ → List Told → Option Event
+abbrev pub next_config : List ℕ → List AnsweredCommand → Option Event
 next_config bytes told = option_map event.Config (slice_get bytes (length told))
 
 -- bytes for a host: each, until the host is full
-abbrev pub next_write : ℕ → List ℕ → List Told → Option Event
+abbrev pub next_write : ℕ → List ℕ → List AnsweredCommand → Option Event
 next_write host bytes told =
     if list_any had_no_room (write_replies told) then None
     else option_map (event.Write host) (slice_get bytes (length (write_replies told)))
 
 -- bytes of a host: up to this number, until none has come
-abbrev pub next_read : ℕ → ℕ → List Told → Option Event
+abbrev pub next_read : ℕ → ℕ → List AnsweredCommand → Option Event
 next_read host count told =
     if list_all is_byte (read_replies told) && nat_lt (length (read_replies told)) count then Some (event.Read host)
     else None
 
 -- bytes of a host: all, until none has come
-abbrev pub next_collect : ℕ → List Told → Option Event
+abbrev pub next_collect : ℕ → List AnsweredCommand → Option Event
 next_collect host told = if list_all is_byte (read_replies told) then Some (event.Read host) else None
 
 -- one event
-abbrev pub once : Event → List Told → Option Event
+abbrev pub once : Event → List AnsweredCommand → Option Event
 once e [] = Some e
 once e told = None
 
 -- code for a host, after its length, if a boot message can hold it
-abbrev pub next_boot : ℕ → List ℕ → List Told → Option Event
+abbrev pub next_boot : ℕ → List ℕ → List AnsweredCommand → Option Event
 next_boot host code told =
     if nat_le 2 (length code) && nat_le (length code) 255 then next_write host (length code ∷ code) told else None
 
 -- ---- a line
 
 -- what a line asks next, after the events that were answered, with their replies; nothing at its end
-abbrev pub next_event : Command → List Told → Option Event
+abbrev pub next_event : Command → List AnsweredCommand → Option Event
 next_event (command.Config bytes) told = next_config bytes.items told
 next_event (command.Write host bytes) told = next_write host bytes.items told
 next_event (command.Boot host code) told = next_boot host code.items told
@@ -90,6 +90,6 @@ next_event (command.Reset node) told = once (event.Reset node) told
 next_event (command.Look node) told = once (event.Look node) told
 
 -- each event is what is asked next, after those before it
-abbrev pub AreAsked : (List Told → Option Event) → List Told → List Told → Type 0
+abbrev pub AreAsked : (List AnsweredCommand → Option Event) → List AnsweredCommand → List AnsweredCommand → Type 0
 AreAsked next before [] = ⊤
 AreAsked next before (t ∷ told) = (next before ≡ Some t.event) × AreAsked next (before ++ t ∷ []) told

@@ -3,7 +3,7 @@ use Rattle.std.specs.Prelude.{◌≡◌, ◌++◌, ◌⊎◌, ℕ, Bool, true, L
 use Rattle.domain_core.specs.declared.event.Event.{Event}
 use Rattle.domain_core.specs.declared.event.Refusal.{Refusal}
 use Rattle.domain_core.specs.declared.event.Refusal.TheVariants.{NoSuch, JournalFull, NoMemory}
-use Rattle.domain_core.specs.declared.event.Told.{Told}
+use Rattle.domain_core.specs.declared.event.AnsweredCommand.{AnsweredCommand}
 use Rattle.farm_service.specs.Answers.{IsTold}
 use Rattle.farm_service.specs.Passes.{SessionValue, with_nearly_full}
 use Rattle.script_lines.specs.declared.command.Command.{Command}
@@ -19,7 +19,7 @@ abbrev pub HasMetNearlyFull : SessionValue → Type 0
 HasMetNearlyFull s = s.pass.met_nearly_full ≡ true
 
 -- the session whose list gained these, and whether its user has met a journal that is full, or nearly full
-abbrev pub with_all : SessionValue → List Told → Bool → Bool → SessionValue
+abbrev pub with_all : SessionValue → List AnsweredCommand → Bool → Bool → SessionValue
 with_all s told full nearly_full =
     record s {
       pass = record s.pass { told = s.pass.told ++ told; met_full = full; met_nearly_full = nearly_full };
@@ -27,14 +27,14 @@ with_all s told full nearly_full =
 
 -- the session of the same user, whose list gained these; a user who has met a journal that is full, or nearly full, has
 -- met it from then on
-pub record HasGained (s t : SessionValue) (told : List Told) : Type 0 where
+pub record HasGained (s t : SessionValue) (told : List AnsweredCommand) : Type 0 where
   pub list : t ≡ with_all s told t.pass.met_full t.pass.met_nearly_full
   pub full : HasMetFull s → HasMetFull t
   pub nearly_full : HasMetNearlyFull s → HasMetNearlyFull t
 
 -- the same of some list
 abbrev pub GainsSome : SessionValue → SessionValue → Type 0
-GainsSome s t = (told : List Told) × HasGained s t told
+GainsSome s t = (told : List AnsweredCommand) × HasGained s t told
 
 -- a session has settled, or that was refused since memory ran out, or since the journal is nearly full, which its user
 -- has then met
@@ -45,7 +45,8 @@ HasSettled s (Err JournalFull) t = t ≡ record s { pass = with_nearly_full s.pa
 HasSettled s (Err NoMemory) t = t ≡ s
 
 -- nothing more is asked, or what is asked next is refused; if it is for a full journal, the user has met it
-abbrev pub HasEnded : {A : Type 0} → (List Told → Option Event) → List Told → SessionValue → Result A Refusal
+abbrev pub HasEnded : {A : Type 0} → (List AnsweredCommand → Option Event) → List AnsweredCommand → SessionValue
+    → Result A Refusal
     → Type 0
 HasEnded next told t (Ok done) = next told ≡ None
 HasEnded next told t (Err refusal) =
@@ -53,16 +54,17 @@ HasEnded next told t (Err refusal) =
     × (refusal ≡ JournalFull → HasMetFull t)
 
 -- a session asks exactly this, up to its end
-pub record AsksJust {A : Type 0} (next : List Told → Option Event) (s : SessionValue) (result : Result A Refusal)
+pub record AsksJust {A : Type 0} (next : List AnsweredCommand → Option Event) (s : SessionValue)
+    (result : Result A Refusal)
     (t : SessionValue) : Type 0 where
-  pub told : List Told
+  pub told : List AnsweredCommand
   pub gains : HasGained s t told
   pub asked : AreAsked next [] told
   pub ended : HasEnded next told t result
 
 -- a line asks nothing more, or what it asks next is refused, or it is a peek that can't settle, and the user has met a
 -- journal that is nearly full
-abbrev pub IsOver : {A : Type 0} → Command → List Told → SessionValue → Result A Refusal → Type 0
+abbrev pub IsOver : {A : Type 0} → Command → List AnsweredCommand → SessionValue → Result A Refusal → Type 0
 IsOver command told t (Ok done) = HasEnded (next_event command) told t (Ok done)
 IsOver {A} command told t (Err refusal) =
     HasEnded {A = A} (next_event command) told t (Err refusal)
@@ -71,14 +73,14 @@ IsOver {A} command told t (Err refusal) =
 -- a session asks what a line asks, up to its end
 pub record AsksLine {A : Type 0} (command : Command) (s : SessionValue) (result : Result A Refusal) (t : SessionValue)
     : Type 0 where
-  pub told : List Told
+  pub told : List AnsweredCommand
   pub gains : HasGained s t told
   pub asked : AreAsked (next_event command) [] told
   pub ended : IsOver command told t result
 
 -- a line is answered: its user's session gains what it asked, and the user's screen gains its output line
 pub record IsAnswered (name : List ℕ) (command : Command) (s t : SessionValue) (screen more : List ℕ) : Type 0 where
-  pub told : List Told
+  pub told : List AnsweredCommand
   pub line : List ℕ
   pub gains : HasGained s t told
   pub is_line : IsAnsweredLine (HasMetFull t) (HasMetNearlyFull t) s name command told line
@@ -87,6 +89,6 @@ pub record IsAnswered (name : List ℕ) (command : Command) (s t : SessionValue)
 -- lines are answered, one after another: the user's screen shows their output lines
 pub record AreAnswered (name : List ℕ) (commands : List Command) (s t : SessionValue) (screen : List ℕ)
     : Type 0 where
-  pub told : List Told
+  pub told : List AnsweredCommand
   pub gains : HasGained s t told
   pub lines : AreAnsweredLines (HasMetFull t) (HasMetNearlyFull t) s name commands told screen

@@ -234,7 +234,7 @@ does_something-by : (ls : FourLinks) (q : Queue) (m : List ℕ) (work : Bool) �
 does_something-by ls q m true same = work-four ls q m _ _ _ _ refl refl refl refl same
 does_something-by ls q m false same = rw (quiet-links ls q m same) refl
 
--- a service does something just if one of the links has work
+-- a service does something exactly if one of the links has work
 pub does_something-serve_all : (ls : FourLinks) (q : Queue) (m : List ℕ)
     → does_something (serve_all ls q m) ≡ any_has_work ls
 does_something-serve_all ls q m = does_something-by ls q m _ refl

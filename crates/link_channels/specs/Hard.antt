@@ -8,13 +8,13 @@ use Rattle.os_link.specs.End.{posted}
 use Rattle.link_channels.specs.declared.link.Link.{Link}
 use Rattle.link_channels.specs.declared.process.Process.{Process}
 use Rattle.link_channels.specs.declared.process.Transfer.{Transfer}
-use Rattle.link_channels.specs.declared.process.Turn.{Turn}
-use Rattle.link_channels.specs.declared.process.Turn.TheVariants.{GoesOn, Waits}
+use Rattle.link_channels.specs.declared.process.TransferOutcome.{TransferOutcome}
+use Rattle.link_channels.specs.declared.process.TransferOutcome.TheVariants.{GoesOn, Waits}
 use Rattle.link_channels.specs.Soft.{chosen}
 use Rattle.link_channels.specs.Waiting.{descriptor_of, state_address, save}
 
 -- in: the channel becomes the own descriptor, pointer and count are set, the watch is cleared, save, leave
-abbrev pub link_input : Process → Transfer → Link → List ℕ → Effect Turn Link
+abbrev pub link_input : Process → Transfer → Link → List ℕ → Effect TransferOutcome Link
 link_input p t l m =
     if t.count == 0 then Gave GoesOn l m
     else (do
@@ -29,7 +29,7 @@ sending byte t l =
     record l { end = posted byte l.end; output_pointer = t.pointer ⊕ 1; output_count = t.count - 1 }
 
 -- out: the channel becomes the own descriptor, save, the first byte is read and posted, leave
-abbrev pub link_output : Process → Transfer → Link → List ℕ → Effect Turn Link
+abbrev pub link_output : Process → Transfer → Link → List ℕ → Effect TransferOutcome Link
 link_output p t l m =
     if t.count == 0 then Gave GoesOn l m
     else (do

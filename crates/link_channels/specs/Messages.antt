@@ -13,7 +13,7 @@ use Rattle.link_channels.specs.declared.process.Process.{Process}
 use Rattle.link_channels.specs.declared.process.Transfer.{Transfer}
 use Rattle.link_channels.specs.declared.process.TransferDirection.{TransferDirection}
 use Rattle.link_channels.specs.declared.process.TransferDirection.TheVariants.{Input, Output}
-use Rattle.link_channels.specs.declared.process.Turn.{Turn}
+use Rattle.link_channels.specs.declared.process.TransferOutcome.{TransferOutcome}
 use Rattle.link_channels.specs.Kinds.{kind_of}
 use Rattle.link_channels.specs.Links.{at, with_link, within}
 use Rattle.link_channels.specs.Hard.{link_disable, link_enable, link_input, link_output}
@@ -25,36 +25,36 @@ abbrev pub wrong_channel : {A : Type 0} → FourLinks → List ℕ → Effect A 
 wrong_channel ls m = Halted WrongChannel ls m
 
 -- a message with a link leaves the queue
-abbrev pub with_queue : Queue → Effect Turn FourLinks → Effect (Turn × Queue) FourLinks
-with_queue q r = do (turn, ls, m) ← perform r; Gave (turn, q) ls m
+abbrev pub with_queue : Queue → Effect TransferOutcome FourLinks → Effect (TransferOutcome × Queue) FourLinks
+with_queue q r = do (outcome, ls, m) ← perform r; Gave (outcome, q) ls m
 
 -- in, by the kind of the channel
 abbrev pub input_at : Channel → Process → Transfer → FourLinks → Queue → List ℕ
-    → Effect (Turn × Queue) FourLinks
+    → Effect (TransferOutcome × Queue) FourLinks
 input_at Soft p t ls q m = soft_input p t ls q m
 input_at (LinkInput n) p t ls q m = with_queue q (within n ls (link_input p t (at n ls) m))
 input_at (LinkOutput n) p t ls q m = wrong_channel ls m
 input_at Event p t ls q m = wrong_channel ls m
 
 -- in, at any channel
-abbrev pub input : Process → Transfer → FourLinks → Queue → List ℕ → Effect (Turn × Queue) FourLinks
+abbrev pub input : Process → Transfer → FourLinks → Queue → List ℕ → Effect (TransferOutcome × Queue) FourLinks
 input p t ls q m = input_at (kind_of t.channel) p t ls q m
 
 -- out, by the kind of the channel
 abbrev pub output_at : Channel → Process → Transfer → FourLinks → Queue → List ℕ
-    → Effect (Turn × Queue) FourLinks
+    → Effect (TransferOutcome × Queue) FourLinks
 output_at Soft p t ls q m = soft_output p t ls q m
 output_at (LinkInput n) p t ls q m = wrong_channel ls m
 output_at (LinkOutput n) p t ls q m = with_queue q (within n ls (link_output p t (at n ls) m))
 output_at Event p t ls q m = wrong_channel ls m
 
 -- out, at any channel
-abbrev pub output : Process → Transfer → FourLinks → Queue → List ℕ → Effect (Turn × Queue) FourLinks
+abbrev pub output : Process → Transfer → FourLinks → Queue → List ℕ → Effect (TransferOutcome × Queue) FourLinks
 output p t ls q m = output_at (kind_of t.channel) p t ls q m
 
 -- in, or out
 abbrev pub transferred : TransferDirection → Process → Transfer → FourLinks → Queue → List ℕ
-    → Effect (Turn × Queue) FourLinks
+    → Effect (TransferOutcome × Queue) FourLinks
 transferred Input p t ls q m = input p t ls q m
 transferred Output p t ls q m = output p t ls q m
 

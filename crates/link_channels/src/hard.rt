@@ -5,7 +5,7 @@ ghost use Rattle.link_channels.specs.Hard.{input_reset, link_disable, link_enabl
 ghost use Rattle.node_memory.specs.Effect.{effect_of};
 
 use crate::link::Link;
-use crate::process::{Process, Transfer, Turn};
+use crate::process::{Process, Transfer, TransferOutcome};
 use crate::waiting::READY;
 use node_memory::{Fault, Memory};
 use process_queue::NOT_PROCESS;
@@ -17,18 +17,18 @@ impl Process {
         memory: &mut Memory,
         link: &mut Link,
         transfer: Transfer,
-    ) -> Result<Turn, Fault>
+    ) -> Result<TransferOutcome, Fault>
         ensures answer { effect_of result link.new memory.new ≡ link_input self.now transfer link.old memory.old }
     {
         if transfer.count == 0 {
-            return Ok(Turn::GoesOn);
+            return Ok(TransferOutcome::GoesOn);
         }
         memory.set_word(transfer.channel, self.descriptor())?;
         link.input_pointer = transfer.pointer;
         link.input_count = transfer.count;
         link.watched = false;
         memory.set_word(self.workspace.wrapping_sub(4), self.instruction)?;
-        Ok(Turn::Waits)
+        Ok(TransferOutcome::Waits)
     }
 
     // Posts the first byte to a link, and waits.
@@ -37,11 +37,11 @@ impl Process {
         memory: &mut Memory,
         link: &mut Link,
         transfer: Transfer,
-    ) -> Result<Turn, Fault>
+    ) -> Result<TransferOutcome, Fault>
         ensures answer { effect_of result link.new memory.new ≡ link_output self.now transfer link.old memory.old }
     {
         if transfer.count == 0 {
-            return Ok(Turn::GoesOn);
+            return Ok(TransferOutcome::GoesOn);
         }
         memory.set_word(transfer.channel, self.descriptor())?;
         memory.set_word(self.workspace.wrapping_sub(4), self.instruction)?;
@@ -49,7 +49,7 @@ impl Process {
         link.end.post(byte);
         link.output_pointer = transfer.pointer.wrapping_add(1);
         link.output_count = transfer.count - 1;
-        Ok(Turn::Waits)
+        Ok(TransferOutcome::Waits)
     }
 
     // Watches a link, or is ready where a byte is there.

@@ -21,5 +21,5 @@ pub use crate::laws::{messages_stop_at_the_edge, services_act_on_work};
 pub use crate::link::{FourLinks, Link};
 pub use crate::links::Links;
 pub use crate::number::LinkNumber;
-pub use crate::process::{Process, Transfer, TransferDirection, Turn};
+pub use crate::process::{Process, Transfer, TransferDirection, TransferOutcome};
 pub use crate::waiting::{ENABLING, NONE_SELECTED, READY, WAITING};

@@ -5,7 +5,7 @@ ghost use Rattle.std.specs.Prelude.{◌≡◌, OnErr};
 use crate::channel::Channel;
 use crate::links::Links;
 use crate::number::LinkNumber;
-use crate::process::{Process, Transfer, TransferDirection, Turn};
+use crate::process::{Process, Transfer, TransferDirection, TransferOutcome};
 use node_memory::{Fault, Memory};
 use process_queue::Queue;
 
@@ -25,13 +25,13 @@ impl Process {
         links: &mut Links,
         number: LinkNumber,
         transfer: Transfer,
-    ) -> Result<Turn, Fault>
+    ) -> Result<TransferOutcome, Fault>
         ensures answer { effect_of result links.new memory.new ≡ within number links.old (link_input self transfer (at number links.old) memory.old) }
     {
         let mut link = links.at(number);
-        let turn = self.input_from_link(memory, &mut link, transfer);
+        let outcome = self.input_from_link(memory, &mut link, transfer);
         links.set(number, link);
-        turn
+        outcome
     }
 
     // Gives a message to the link of a number.
@@ -43,13 +43,13 @@ impl Process {
         links: &mut Links,
         number: LinkNumber,
         transfer: Transfer,
-    ) -> Result<Turn, Fault>
+    ) -> Result<TransferOutcome, Fault>
         ensures answer { effect_of result links.new memory.new ≡ within number links.old (link_output self transfer (at number links.old) memory.old) }
     {
         let mut link = links.at(number);
-        let turn = self.output_to_link(memory, &mut link, transfer);
+        let outcome = self.output_to_link(memory, &mut link, transfer);
         links.set(number, link);
-        turn
+        outcome
     }
 
     /// Takes a message from a channel, or gives it one, or waits for the other side: instruction set handbook, in and out.
@@ -67,7 +67,7 @@ impl Process {
         queue: &mut Queue,
         direction: TransferDirection,
         transfer: Transfer,
-    ) -> Result<Turn, Fault>
+    ) -> Result<TransferOutcome, Fault>
         ensures answer { effect_with result queue.new links.new memory.new ≡ transferred direction self.now transfer links.old queue.old memory.old }
         ensures queue_unchanged { OnErr result (queue.new ≡ queue.old) }
     {
@@ -95,7 +95,7 @@ impl Process {
         links: &mut Links,
         queue: &mut Queue,
         transfer: Transfer,
-    ) -> Result<Turn, Fault>
+    ) -> Result<TransferOutcome, Fault>
         ensures answer { effect_with result queue.new links.new memory.new ≡ input self.now transfer links.old queue.old memory.old }
         ensures queue_unchanged { OnErr result (queue.new ≡ queue.old) }
     {
@@ -114,7 +114,7 @@ impl Process {
         links: &mut Links,
         queue: &mut Queue,
         transfer: Transfer,
-    ) -> Result<Turn, Fault>
+    ) -> Result<TransferOutcome, Fault>
         ensures answer { effect_with result queue.new links.new memory.new ≡ output self.now transfer links.old queue.old memory.old }
         ensures queue_unchanged { OnErr result (queue.new ≡ queue.old) }
     {

@@ -26,7 +26,7 @@ pub enum TransferDirection {
 
 /// Whether the process goes on, or waits with its place saved.
 #[derive(Clone, Copy)]
-pub enum Turn {
+pub enum TransferOutcome {
     GoesOn,
     Waits,
 }

@@ -6,7 +6,7 @@ ghost use Rattle.link_channels.specs.declared.link.FourLinks.{FourLinks};
 ghost use Rattle.link_channels.specs.declared.link.Link.{Link};
 ghost use Rattle.link_channels.specs.Soft.{message_told, chosen, soft_disable, soft_enable, soft_reset, soft_transferred, wait_there};
 
-use crate::process::{Process, Transfer, TransferDirection, Turn};
+use crate::process::{Process, Transfer, TransferDirection, TransferOutcome};
 use crate::waiting::{ENABLING, NONE_SELECTED, READY, WAITING, waiting_at};
 use node_memory::{Fault, Memory};
 use process_queue::{NOT_PROCESS, Queue};
@@ -19,13 +19,13 @@ impl Process {
         memory: &mut Memory,
         queue: &Queue,
         transfer: Transfer,
-    ) -> Result<Turn, Fault>
+    ) -> Result<TransferOutcome, Fault>
         ensures answer { (ls : FourLinks) → effect_with result queue.now ls memory.new ≡ wait_there self.now transfer ls queue.now memory.old }
     {
         memory.set_word(transfer.channel, self.descriptor())?;
         memory.set_word(self.workspace.wrapping_sub(12), transfer.pointer)?;
         memory.set_word(self.workspace.wrapping_sub(4), self.instruction)?;
-        Ok(Turn::Waits)
+        Ok(TransferOutcome::Waits)
     }
 
     // Tells an alternative of a message, which goes on if it waited, and waits for the input that it does then. It is apart
@@ -39,7 +39,7 @@ impl Process {
         transfer: Transfer,
         other: u32,
         waits: bool,
-    ) -> (Queue, Result<Turn, Fault>)
+    ) -> (Queue, Result<TransferOutcome, Fault>)
         ensures answer { (ls : FourLinks) → effect_with result.1 result.0 ls memory.new ≡ message_told waits other self transfer ls queue memory.old }
         ensures queue_unchanged { OnErr result.1 (result.0 ≡ queue) }
     {
@@ -53,7 +53,7 @@ impl Process {
             }
         }
         match self.wait_there(memory, &after, transfer) {
-            Ok(turn) => (after, Ok(turn)),
+            Ok(outcome) => (after, Ok(outcome)),
             Err(fault) => (queue, Err(fault)),
         }
     }
@@ -67,13 +67,13 @@ impl Process {
         transfer: Transfer,
         other: u32,
         waits: bool,
-    ) -> Result<Turn, Fault>
+    ) -> Result<TransferOutcome, Fault>
         ensures answer { (ls : FourLinks) → effect_with result queue.new ls memory.new ≡ message_told waits other self.now transfer ls queue.old memory.old }
         ensures queue_unchanged { OnErr result (queue.new ≡ queue.old) }
     {
-        let (after, turn) = self.tell_by_value(memory, *queue, transfer, other, waits);
+        let (after, outcome) = self.tell_by_value(memory, *queue, transfer, other, waits);
         *queue = after;
-        turn
+        outcome
     }
 
     // Takes a message from a process that has one, or gives one to a process that waits for it, or waits.
@@ -85,7 +85,7 @@ impl Process {
         queue: &mut Queue,
         direction: TransferDirection,
         transfer: Transfer,
-    ) -> Result<Turn, Fault>
+    ) -> Result<TransferOutcome, Fault>
         ensures answer { (ls : FourLinks) → effect_with result queue.new ls memory.new ≡ soft_transferred direction self.now transfer ls queue.old memory.old }
         ensures queue_unchanged { OnErr result (queue.new ≡ queue.old) }
     {
@@ -106,7 +106,7 @@ impl Process {
         memory.copy_up(from, to, transfer.count)?;
         memory.set_word(transfer.channel, NOT_PROCESS)?;
         queue.put(memory, other)?;
-        Ok(Turn::GoesOn)
+        Ok(TransferOutcome::GoesOn)
     }
 
     // Names a channel that the process is ready to take from.

@@ -9,19 +9,19 @@ use Rattle.farm_service.specs.Closed.{AreListed, AllMetFullTruly}
 use Rattle.farm_service.specs.Histories.{with_history}
 use Rattle.farm_service.specs.Passes.{UserPassValue, fresh_passes, with_reserved}
 use Rattle.plan_rules.specs.declared.users.UserNumber.{UserNumber}
-use Rattle.live_farm.specs.Crews.{number_of}
+use Rattle.live_farm.specs.FarmUsers.{user_number_of}
 use Rattle.live_farm.specs.Closings.{RecordSays, HaveListed, AreUsersListed, AreUsersRecorded}
 
 -- whatever they list and reserve, passes are of the same users
 pub same_users : (domains : List DomainValue) (count : ℕ) (passes : List UserPassValue)
-    → map number_of (map (with_history domains) (map (with_reserved count) passes)) ≡ map number_of passes
+    → map user_number_of (map (with_history domains) (map (with_reserved count) passes)) ≡ map user_number_of passes
 same_users domains count [] = refl
 same_users domains count (p ∷ passes) =
-    ap (λ (ns : List UserNumber). number_of p ∷ ns) (same_users domains count passes)
+    ap (λ (ns : List UserNumber). user_number_of p ∷ ns) (same_users domains count passes)
 
 -- if the passes are of the plan's users, and closing vouches for each, it vouches for all users of the plan
 pub all_listed : {E : Type 0} (plan : List DomainData) (passes : List UserPassValue) (outcome : Result Closed E)
-    → map number_of passes ≡ map number_of (fresh_passes plan)
+    → map user_number_of passes ≡ map user_number_of (fresh_passes plan)
     → IfOk outcome (λ closed. AreListed closed.domains.items passes)
     → IfOk outcome (λ closed. AllMetFullTruly plan closed.domains.items passes)
     → IfOk outcome (λ closed. AreUsersListed plan closed.domains.items)
@@ -33,7 +33,7 @@ all_listed plan passes (Err e) theirs listed full = tt
 pub all_listed_of : {E : Type 0} (plan other : List DomainData) (passes : List UserPassValue)
     → (outcome : Result Closed E)
     → other ≡ plan
-    → map number_of passes ≡ map number_of (fresh_passes plan)
+    → map user_number_of passes ≡ map user_number_of (fresh_passes plan)
     → IfOk outcome (λ closed. AreListed closed.domains.items passes)
     → IfOk outcome (λ closed. AllMetFullTruly other closed.domains.items passes)
     → IfOk outcome (λ closed. AreUsersListed plan closed.domains.items)
@@ -44,7 +44,7 @@ all_listed_of plan other passes outcome same theirs listed full =
 -- if closing vouches for each of these passes, and each record kept what they list, it kept what the plan's users have
 pub all_kept : {E K : Type 0} (has_kept : RecordSays K) (was_out : K → Type 0) (plan : List DomainData)
     (records : List K) (passes : List UserPassValue) (outcome : Result Closed E)
-    → map number_of passes ≡ map number_of (fresh_passes plan)
+    → map user_number_of passes ≡ map user_number_of (fresh_passes plan)
     → IfOk outcome (λ closed. AreListed closed.domains.items passes)
     → HaveListed has_kept was_out plan passes records
     → IfOk outcome (λ closed. AreUsersRecorded has_kept was_out plan records closed.domains.items)
@@ -56,7 +56,7 @@ all_kept has_kept was_out plan records passes (Err e) theirs listed kept = tt
 pub all_kept_of : {E K : Type 0} (has_kept : RecordSays K) (was_out : K → Type 0) (plan other : List DomainData)
     (records : List K) (passes : List UserPassValue) (outcome : Result Closed E)
     → other ≡ plan
-    → map number_of passes ≡ map number_of (fresh_passes plan)
+    → map user_number_of passes ≡ map user_number_of (fresh_passes plan)
     → IfOk outcome (λ closed. AreListed closed.domains.items passes)
     → HaveListed has_kept was_out other passes records
     → IfOk outcome (λ closed. AreUsersRecorded has_kept was_out plan records closed.domains.items)

@@ -6,7 +6,7 @@ use Rattle.record_keeping.specs.declared.domain_record.DomainRecord.{DomainRecor
 use Rattle.record_keeping.specs.Keeping.{KeepsGained}
 use Rattle.live_farm.specs.Kept.{HasKept}
 
--- what a call of the record says that is behind a lock, it says of some record there
+-- what a call of the record says that is under a lock, it says of some record there
 pub kept_there : {X E S : Type 0} (g : _) (whole : S → Option (List ℕ)) (plan : List DomainData)
     (number asked : ℕ) (anew : Bool) (old new : DomainRecord S g) (outcome : Result X E)
     → OnOk outcome (IsSome old.store → KeepsGained whole plan number anew false old new)

@@ -1,4 +1,4 @@
--- What is written line by line is whole lines: what `LiveAnswer::of` requires of `DomainUsers::answer` and
+-- What is written line by line is whole lines: what `LiveAnswer::of` requires of `UserGroup::answer` and
 -- `LiveAnswer::line`, and the invariant of `Outlet`.
 use Rattle.std.proofs.Common.{◌≡◌, ℕ, List, [], ◌∷◌, ◌++◌, refl, true, false}
 use Rattle.std.proofs.Common.{rules, Bool, ap, ◌∙◌, sym, subst, append-nil}
@@ -7,9 +7,9 @@ use Rattle.std.specs.Fmt.{decimal}
 use Rattle.std.specs.Option.{option_map_or}
 use Rattle.std.specs.Io.KnownBytes.{Appends, Keeps}
 use Rattle.script_lines.specs.declared.command.Command.{Command}
-use Rattle.script_lines.specs.Verbs.{name_of, verb_of, place_asked}
+use Rattle.script_lines.specs.Verbs.{name_of, verb_of, target_asked}
 use Rattle.answer_text.specs.Results.{behind_blank, outcome_text, line_text, replies_told}
-use Rattle.live_farm.specs.declared.group.DomainUsers.{DomainUsers}
+use Rattle.live_farm.specs.declared.group.UserGroup.{UserGroup}
 use Rattle.live_farm.specs.Groups.{AnswersLine}
 use Rattle.live_farm.specs.WholeLines.{are_lines, is_whole}
 
@@ -19,7 +19,7 @@ is_ended [] = false
 is_ended (x ∷ []) = x == 10
 is_ended (x ∷ y ∷ ys) = is_ended (y ∷ ys)
 
--- bytes that end in a line feed still do so behind other bytes
+-- bytes that end in a line feed still do so after other bytes
 pub ended_behind : (xs ys : List ℕ) → is_ended ys ≡ true → is_ended (xs ++ ys) ≡ true
 ended_behind [] ys is = is
 ended_behind (x ∷ xs) ys is = more x (xs ++ ys) (ended_behind xs ys is)
@@ -35,7 +35,7 @@ ended_lines (x ∷ []) is = is
 ended_lines (x ∷ y ∷ ys) is = ended_lines (y ∷ ys) is
 
 -- an output line of a script is a whole line
-pub line_is_whole : (before after : DomainUsers) (user : ℕ) (command : Command) (text : List ℕ)
+pub line_is_whole : (before after : UserGroup) (user : ℕ) (command : Command) (text : List ℕ)
     → AnswersLine before after user command text
     → are_lines text ≡ true
 line_is_whole before after user command text is =
@@ -43,7 +43,7 @@ line_is_whole before after user command text is =
     let told = replies_told is.answered.told in
     let shown =
     is.name.now ++ behind_blank (name_of (verb_of command))
-    ++ option_map_or (λ (p : ℕ). behind_blank (decimal p)) (place_asked command) []
+    ++ option_map_or (λ (p : ℕ). behind_blank (decimal p)) (target_asked command) []
     ++ outcome_text command told line.result in
     let ended : is_ended (line_text is.name.now command told line.result) ≡ true =
     ended_behind shown (codes "\n") refl in
@@ -57,7 +57,7 @@ behind [] number ys = refl
 behind (x ∷ []) number ys = refl
 behind (x ∷ w ∷ xs) number ys = behind (w ∷ xs) number ys
 
--- lines behind lines are lines
+-- lines after lines are lines
 pub lines_behind : (xs ys : List ℕ) → are_lines xs ≡ true → are_lines ys ≡ true → are_lines (xs ++ ys) ≡ true
 lines_behind xs [] before after = ap are_lines (append-nil xs) ∙ before
 lines_behind xs (y ∷ ys) before after = behind xs y ys ∙ after

@@ -2,7 +2,7 @@
 use Rattle.std.specs.Prelude.{◌==◌, ℕ, List, length, sum_by, if◌then◌else◌}
 use Rattle.farm_service.specs.Passes.{UserPassValue, SessionValue}
 use Rattle.record_keeping.specs.Counts.{saturated}
-use Rattle.live_farm.specs.declared.group.DomainUsers.{DomainUsers}
+use Rattle.live_farm.specs.declared.group.UserGroup.{UserGroup}
 
 -- how many commands sessions list
 abbrev pub commands_of_sessions : List SessionValue → ℕ
@@ -17,7 +17,7 @@ abbrev pub commands_of_passes : ℕ → List UserPassValue → ℕ
 commands_of_passes domain passes = sum_by (commands_of_pass domain) passes
 
 -- how many commands the users of a domain were answered, as 64 bits count them
-abbrev pub commands_asked : DomainUsers → ℕ
+abbrev pub commands_asked : UserGroup → ℕ
 commands_asked group = saturated (commands_of_sessions group.sessions.items)
 
 -- the same by the passes of all users

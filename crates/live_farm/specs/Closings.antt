@@ -5,13 +5,13 @@ use Rattle.farm_service.specs.declared.closed.ClosedDomain.{ClosedDomain}
 use Rattle.farm_service.specs.Passes.{UserPassValue, fresh_passes}
 use Rattle.farm_service.specs.Closed.{AreListed, AllMetFullTruly}
 use Rattle.live_farm.specs.Asking.{commands_listed}
-use Rattle.live_farm.specs.Crews.{number_of}
+use Rattle.live_farm.specs.FarmUsers.{user_number_of}
 
 -- the passes of a plan's users, in its order: each lists the user's commands in the journal of the user's domain, and
 -- nothing else, and has met a full journal only if that one is full
 pub record AreUsersListed (plan : List DomainData) (closed : List ClosedDomain) : Type 0 where
   pub passes : List UserPassValue
-  pub theirs : map number_of passes ≡ map number_of (fresh_passes plan)
+  pub theirs : map user_number_of passes ≡ map user_number_of (fresh_passes plan)
   pub listed : AreListed closed passes
   pub full : AllMetFullTruly plan closed passes
 
@@ -52,6 +52,6 @@ AllWereAsked was_asked plan passes records =
 pub record AreUsersRecorded {K : Type 0} (has_kept : RecordSays K) (was_out : K → Type 0) (plan : List DomainData)
     (records : List K) (closed : List ClosedDomain) : Type 0 where
   pub passes : List UserPassValue
-  pub theirs : map number_of passes ≡ map number_of (fresh_passes plan)
+  pub theirs : map user_number_of passes ≡ map user_number_of (fresh_passes plan)
   pub listed : AreListed closed passes
   pub kept : HaveListed has_kept was_out plan passes records

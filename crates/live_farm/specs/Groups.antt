@@ -11,11 +11,11 @@ use Rattle.script_lines.specs.declared.fault.LineFault.TheVariants as fault
 use Rattle.farm_service.specs.Restarts.{begun_anew}
 use Rattle.live_lines.specs.declared.asked.WholeRequest.TheVariants as whole
 use Rattle.live_lines.specs.declared.asked.LiveRequest.TheVariants as request
-use Rattle.live_farm.specs.declared.answering.LetterAnswer.{LetterAnswer}
-use Rattle.live_farm.specs.declared.group.DomainUsers.{DomainUsers}
-use Rattle.live_farm.specs.declared.letter.Letter.{Letter}
-use Rattle.live_farm.specs.declared.letter.Matter.{Matter}
-use Rattle.live_farm.specs.declared.letter.Matter.TheVariants as matter
+use Rattle.live_farm.specs.declared.answering.QueuedAnswer.{QueuedAnswer}
+use Rattle.live_farm.specs.declared.group.UserGroup.{UserGroup}
+use Rattle.live_farm.specs.declared.queued.QueuedLine.{QueuedLine}
+use Rattle.live_farm.specs.declared.queued.QueuedRequest.{QueuedRequest}
+use Rattle.live_farm.specs.declared.queued.QueuedRequest.TheVariants as line
 use Rattle.live_farm.specs.declared.record.RecordState.{RecordState}
 use Rattle.live_farm.specs.declared.record.RecordState.TheVariants as state
 use Rattle.live_farm.specs.declared.texts.NotDone.{NotDone}
@@ -26,7 +26,7 @@ use Rattle.live_farm.specs.LiveTexts.{error_text, rest_text, rest_state_of, rest
 
 -- a line of this user is answered by this text: the user's session gains what the line asked, and no other session
 -- changes
-pub record AnswersLine (before after : DomainUsers) (user : ℕ) (command : Command) (text : List ℕ) : Type 0 where
+pub record AnswersLine (before after : UserGroup) (user : ℕ) (command : Command) (text : List ℕ) : Type 0 where
   pub name : Bor (List ℕ)
   pub entry : SessionValue
   pub exit : SessionValue
@@ -37,48 +37,48 @@ pub record AnswersLine (before after : DomainUsers) (user : ℕ) (command : Comm
   pub names : after.names ≡ before.names
 
 -- the user of this number is called so
-abbrev pub IsNamedSo : DomainUsers → ℕ → Bor (List ℕ) → Type 0
+abbrev pub IsNamedSo : UserGroup → ℕ → Bor (List ℕ) → Type 0
 IsNamedSo group user name = slice_get group.names.items user ≡ Some name
 
 -- nobody's session changes
-abbrev pub AllStay : DomainUsers → DomainUsers → Type 0
+abbrev pub AllStay : UserGroup → UserGroup → Type 0
 AllStay before after = after.sessions.items ≡ before.sessions.items
 
 -- they are the users of the same domain of the same service
-abbrev pub IsSameDomain : DomainUsers → DomainUsers → Type 0
+abbrev pub IsSameDomain : UserGroup → UserGroup → Type 0
 IsSameDomain before after = (after.service ≡ before.service) × (after.domain ≡ before.domain)
 
 -- the session of each is that of a user who hasn't asked anything
-abbrev pub AllBegin : DomainUsers → DomainUsers → Type 0
+abbrev pub AllBegin : UserGroup → UserGroup → Type 0
 AllBegin before after = after.sessions.items ≡ map begun_anew before.sessions.items
 
 -- all sessions begin again if that is done, else nobody's session changes
-abbrev pub BeginsIf : Bool → DomainUsers → DomainUsers → Type 0
+abbrev pub BeginsIf : Bool → UserGroup → UserGroup → Type 0
 BeginsIf true before after = AllBegin before after
 BeginsIf false before after = AllStay before after
 
 -- this was the status of these users' domain when it was looked at: it had recorded as many events as its users were
 -- answered commands, or more
-abbrev pub IsStatusHere : DomainUsers → DomainStatus → Type 0
+abbrev pub IsStatusHere : UserGroup → DomainStatus → Type 0
 IsStatusHere group status =
     (d : DomainValue) × IsFound group.service.now.plan group.domain d × IsStatusOf d status
     × (commands_asked group ≤ status.recorded)
 
 -- a user is answered whether the user's domain is at rest, as its status says
-abbrev pub AnswersRest : DomainUsers → ℕ → List ℕ → Type 0
+abbrev pub AnswersRest : UserGroup → ℕ → List ℕ → Type 0
 AnswersRest group user text =
     (name : Bor (List ℕ)) × (status : DomainStatus) × IsNamedSo group user name × IsStatusHere group status
     × (text ≡ rest_text name.now (rest_state_of status))
 
 -- a user who is alone in a domain begins it again; or the user is answered that only the operator may
-abbrev pub AnswersRestart : DomainUsers → DomainUsers → ℕ → Bool → List ℕ → Type 0
+abbrev pub AnswersRestart : UserGroup → UserGroup → ℕ → Bool → List ℕ → Type 0
 AnswersRestart before after user done text =
     (name : Bor (List ℕ)) × IsNamedSo before user name × (text ≡ restart_text name.now done)
     × BeginsIf done before after
     × (done ≡ true → length before.sessions.items ≡ 1)
 
 -- the domain has no node of the number that is asked for
-abbrev pub LacksNode : DomainUsers → Option ℕ → List ℕ → List ℕ → Type 0
+abbrev pub LacksNode : UserGroup → Option ℕ → List ℕ → List ℕ → Type 0
 LacksNode group None name text = ⊥
 LacksNode group (Some node) name text =
     IfSome (slice_get group.service.now.plan group.domain) (λ d. length d.nodes ≤ node)
@@ -87,7 +87,7 @@ LacksNode group (Some node) name text =
 -- a user is answered why the nodes of the user's domain, or one of them, do no more than they do: each line of that
 -- begins with the user's name, and the last says that it is the end. Or the answer is that there is no such node; or,
 -- by the number of the user's line, that what the domain answered can't be done again
-abbrev pub AnswersWhy : DomainUsers → ℕ → ℕ → Option ℕ → List ℕ → Type 0
+abbrev pub AnswersWhy : UserGroup → ℕ → ℕ → Option ℕ → List ℕ → Type 0
 AnswersWhy group user number node text =
     (name : Bor (List ℕ)) × IsNamedSo group user name
     × (((told : List ℕ) × IsToldOf group node told × (text ≡ why_text name.now told))
@@ -95,67 +95,67 @@ AnswersWhy group user number node text =
 
 -- the domain of a user begins again, as the operator asked in the line of this number; or nothing changes, and the
 -- operator is answered the error `user`
-abbrev pub AnswersOperator : DomainUsers → DomainUsers → ℕ → ℕ → Bool → List ℕ → Type 0
+abbrev pub AnswersOperator : UserGroup → UserGroup → ℕ → ℕ → Bool → List ℕ → Type 0
 AnswersOperator before after user number done text =
     (name : Bor (List ℕ)) × IsNamedSo before user name × BeginsIf done before after
     × (text
     ≡ (if done then operator_restart_text name.now else error_text (codes "!") number (why.Fault fault.User)))
 
 -- a wrong line asks nothing, and its user is answered why it is wrong
-abbrev pub AnswersWrong : DomainUsers → DomainUsers → ℕ → ℕ → NotDone → List ℕ → Type 0
+abbrev pub AnswersWrong : UserGroup → UserGroup → ℕ → ℕ → NotDone → List ℕ → Type 0
 AnswersWrong before after user number w text =
     (name : Bor (List ℕ)) × IsNamedSo before user name × (text ≡ error_text name.now number w)
     × AllStay before after
 
 -- what a line is answered, and whether the domain begins again by it
-abbrev pub AnswersMatter : DomainUsers → DomainUsers → ℕ → ℕ → Matter → Bool → List ℕ → Type 0
-AnswersMatter before after user number (matter.Asked (request.Script command)) anew text =
+abbrev pub AnswersRequest : UserGroup → UserGroup → ℕ → ℕ → QueuedRequest → Bool → List ℕ → Type 0
+AnswersRequest before after user number (line.Asked (request.Script command)) anew text =
     AnswersLine before after user command text × (anew ≡ false)
-AnswersMatter before after user number (matter.Asked (request.Domain whole.Rest)) anew text =
+AnswersRequest before after user number (line.Asked (request.Domain whole.Rest)) anew text =
     AnswersRest before user text × AllStay before after × (anew ≡ false)
-AnswersMatter before after user number (matter.Asked (request.Domain whole.Restart)) anew text =
+AnswersRequest before after user number (line.Asked (request.Domain whole.Restart)) anew text =
     AnswersRestart before after user anew text
-AnswersMatter before after user number (matter.Asked (request.Domain (whole.Why node))) anew text =
+AnswersRequest before after user number (line.Asked (request.Domain (whole.Why node))) anew text =
     AnswersWhy before user number node text × AllStay before after × (anew ≡ false)
-AnswersMatter before after user number (matter.Wrong w) anew text =
+AnswersRequest before after user number (line.Wrong w) anew text =
     AnswersWrong before after user number w text × (anew ≡ false)
-AnswersMatter before after user number matter.OperatorRestart anew text =
+AnswersRequest before after user number line.OperatorRestart anew text =
     AnswersOperator before after user number anew text
 
--- what a letter is answered
-abbrev pub AnswersLetter : DomainUsers → DomainUsers → Letter → LetterAnswer → Type 0
-AnswersLetter before after letter answer =
-    AnswersMatter before after letter.user letter.number letter.matter answer.begins_anew
+-- what a line is answered
+abbrev pub AnswersQueued : UserGroup → UserGroup → QueuedLine → QueuedAnswer → Type 0
+AnswersQueued before after queued answer =
+    AnswersRequest before after queued.user queued.number queued.request answer.begins_anew
     (string_bytes answer.lines.text)
 
 -- after an error nobody's session has changed; but a line of a script may have asked a part of what it says
-abbrev pub StaysAfterError : DomainUsers → DomainUsers → Matter → Type 0
-StaysAfterError before after (matter.Asked (request.Script command)) = ⊤
+abbrev pub StaysAfterError : UserGroup → UserGroup → QueuedRequest → Type 0
+StaysAfterError before after (line.Asked (request.Script command)) = ⊤
 StaysAfterError before after other = AllStay before after
 
--- as whom a matter is answered: the operator is called `!`
-abbrev pub asker_name : List ℕ → Matter → List ℕ
-asker_name name (matter.Asked request) = name
-asker_name name (matter.Wrong w) = name
-asker_name name matter.OperatorRestart = codes "!"
+-- as whom a request is answered: the operator is called `!`
+abbrev pub asker_name : List ℕ → QueuedRequest → List ℕ
+asker_name name (line.Asked request) = name
+asker_name name (line.Wrong w) = name
+asker_name name line.OperatorRestart = codes "!"
 
--- a letter is answered if what was answered before is recorded. A domain whose record can't be taken is asked only to
+-- a line is answered if what was answered before is recorded. A domain whose record can't be taken is asked only to
 -- begin again, for the operator. A domain with something that isn't recorded is asked nothing at all
-abbrev pub may_be_answered : RecordState → Matter → Bool
+abbrev pub may_be_answered : RecordState → QueuedRequest → Bool
 may_be_answered state.Kept m = true
 may_be_answered state.Unrecorded m = false
-may_be_answered state.Out (matter.Asked request) = false
-may_be_answered state.Out (matter.Wrong w) = false
-may_be_answered state.Out matter.OperatorRestart = true
+may_be_answered state.Out (line.Asked request) = false
+may_be_answered state.Out (line.Wrong w) = false
+may_be_answered state.Out line.OperatorRestart = true
 
 -- who asked is answered that something can't be recorded. The line may have been done or not
-abbrev pub TellsUnrecorded : DomainUsers → Letter → List ℕ → Type 0
-TellsUnrecorded group letter text =
-    (name : Bor (List ℕ)) × IsNamedSo group letter.user name
-    × (text ≡ error_text (asker_name name.now letter.matter) letter.number why.Record)
+abbrev pub TellsUnrecorded : UserGroup → QueuedLine → List ℕ → Type 0
+TellsUnrecorded group queued text =
+    (name : Bor (List ℕ)) × IsNamedSo group queued.user name
+    × (text ≡ error_text (asker_name name.now queued.request) queued.number why.Record)
 
--- a letter for which the domain has no room is answered so
-abbrev pub TellsFull : DomainUsers → Letter → List ℕ → Type 0
-TellsFull group letter text =
-    (name : Bor (List ℕ)) × IsNamedSo group letter.user name
-    × (text ≡ error_text (asker_name name.now letter.matter) letter.number why.Full)
+-- a line for which the domain has no room is answered so
+abbrev pub TellsFull : UserGroup → QueuedLine → List ℕ → Type 0
+TellsFull group queued text =
+    (name : Bor (List ℕ)) × IsNamedSo group queued.user name
+    × (text ≡ error_text (asker_name name.now queued.request) queued.number why.Full)

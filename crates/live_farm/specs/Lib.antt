@@ -5,7 +5,7 @@ pub mod WholeLines
 pub mod Whys
 pub mod Groups
 pub mod Fates
-pub mod Crews
+pub mod FarmUsers
 pub mod Closings
 -- what only helps contracts
 pub mod Kept

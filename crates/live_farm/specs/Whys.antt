@@ -7,7 +7,7 @@ use Rattle.farm_service.specs.declared.status.DomainStatus.{DomainStatus}
 use Rattle.farm_service.specs.Domains.{IsFound, IsStatusOf}
 use Rattle.record_following.specs.Following.{IsReached}
 use Rattle.node_causes.specs.Explained.{IsExplained}
-use Rattle.live_farm.specs.declared.group.DomainUsers.{DomainUsers}
+use Rattle.live_farm.specs.declared.group.UserGroup.{UserGroup}
 use Rattle.live_farm.specs.Asking.{commands_asked}
 
 -- up to which event a domain was done again, of all that are recorded
@@ -42,7 +42,7 @@ moment_text status room done causes = after_text done status.recorded ++ stop_te
 
 -- what is said of the domain of these users, and of all its nodes or the one that is asked for: of a moment to which
 -- calls of it lead, and of its status when it had recorded as many events as its users were answered commands, or more
-pub record IsToldOf (group : DomainUsers) (node : Option ℕ) (told : List ℕ) : Type 0 where
+pub record IsToldOf (group : UserGroup) (node : Option ℕ) (told : List ℕ) : Type 0 where
   pub domain : DomainValue
   pub status : DomainStatus
   pub moment : MomentValue

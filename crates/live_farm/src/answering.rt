@@ -4,13 +4,13 @@ ghost use Rattle.farm_service.specs.Restarts.{begun_anew};
 ghost use Rattle.farm_service.specs.declared.status.DomainStatus.{DomainStatus as SpecStatus};
 ghost use Rattle.live_farm.specs.Asking.{commands_asked};
 ghost use Rattle.live_farm.specs.LiveTexts.{rest_state_of};
-ghost use Rattle.live_farm.specs.Groups.{IsStatusHere, AnswersLine, AnswersRest, AnswersRestart, AnswersWhy, AnswersOperator, AnswersLetter};
+ghost use Rattle.live_farm.specs.Groups.{IsStatusHere, AnswersLine, AnswersRest, AnswersRestart, AnswersWhy, AnswersOperator, AnswersQueued};
 ghost use Rattle.live_farm.specs.Groups.{IsSameDomain, StaysAfterError};
 
 use crate::asked::AskedCommands;
 use crate::causes::explain_domain;
-use crate::group::DomainUsers;
-use crate::letter::{Letter, Matter};
+use crate::group::UserGroup;
+use crate::queued::{QueuedLine, QueuedRequest};
 use crate::texts::{
     LiveAnswer, NotDone, RestState, error_answer, no_node_answer, operator_restart_answer,
     rest_answer, restart_answer, why_answer,
@@ -24,40 +24,40 @@ use script_lines::{Command, LineFault};
 use std::alloc::Global;
 use std::sync::Wait;
 
-/// What a letter is answered, and whether the domain began again by it.
+/// What a line is answered, and whether the domain began again by it.
 #[derive(Drop)]
-pub struct LetterAnswer {
+pub struct QueuedAnswer {
     /// What is written.
     pub lines: LiveAnswer,
     /// Whether the domain began again, so that its record does too.
     pub begins_anew: bool,
 }
 
-impl LetterAnswer {
+impl QueuedAnswer {
     /// The answer to what doesn't begin the domain again.
-    pub(crate) fn of_line(lines: LiveAnswer) -> LetterAnswer
+    pub(crate) fn of_line(lines: LiveAnswer) -> QueuedAnswer
         ensures lines { result.lines ≡ lines }
         ensures anew { result.begins_anew ≡ false }
     {
-        LetterAnswer {
+        QueuedAnswer {
             lines,
             begins_anew: false,
         }
     }
 
     // The answer to a restart that is done.
-    fn of_restart(lines: LiveAnswer) -> LetterAnswer
+    fn of_restart(lines: LiveAnswer) -> QueuedAnswer
         ensures lines { result.lines ≡ lines }
         ensures anew { result.begins_anew ≡ true }
     {
-        LetterAnswer {
+        QueuedAnswer {
             lines,
             begins_anew: true,
         }
     }
 }
 
-impl DomainUsers<'_> {
+impl UserGroup<'_> {
     // The output line of a user's line.
     fn line_of<R: Wait>(
         &mut self,
@@ -91,14 +91,14 @@ impl DomainUsers<'_> {
         alloc: Global,
         user: usize,
         command: &Command,
-    ) -> Result<LetterAnswer, NoMemory>
+    ) -> Result<QueuedAnswer, NoMemory>
         requires { user < length self.old.sessions.items }
         ensures line { IfOk result (λ a. AnswersLine self.old self.new user command.now (string_bytes a.lines.text)) }
         ensures anew { IfOk result (λ a. a.begins_anew ≡ false) }
         ensures same { IsSameDomain self.old self.new }
     {
         let text = self.line_of(rt, alloc, user, command)?;
-        Ok(LetterAnswer::of_line(LiveAnswer::of(text)))
+        Ok(QueuedAnswer::of_line(LiveAnswer::of(text)))
     }
 
     /// Settles the domain as after a line of a script. A refusal is nobody's fault.
@@ -165,14 +165,14 @@ impl DomainUsers<'_> {
         rt: &R,
         alloc: Global,
         user: usize,
-    ) -> Result<LetterAnswer, NoMemory>
+    ) -> Result<QueuedAnswer, NoMemory>
         requires { user < length self.now.sessions.items }
         ensures rest { IfOk result (λ a. AnswersRest self.now user (string_bytes a.lines.text)) }
         ensures anew { IfOk result (λ a. a.begins_anew ≡ false) }
     {
         self.settle(rt, alloc, user)?;
         let lines = rest_answer(alloc, self.name(user), self.rest_state(rt))?;
-        Ok(LetterAnswer::of_line(lines))
+        Ok(QueuedAnswer::of_line(lines))
     }
 
     // Begins the domain again for a user who is alone in it. Both texts are made before that, so after an error nothing has changed.
@@ -181,7 +181,7 @@ impl DomainUsers<'_> {
         rt: &R,
         alloc: Global,
         user: usize,
-    ) -> Result<LetterAnswer, NoMemory>
+    ) -> Result<QueuedAnswer, NoMemory>
         requires { user < length self.old.sessions.items }
         ensures restart { IfOk result (λ a. AnswersRestart self.old self.new user a.begins_anew (string_bytes a.lines.text)) }
         ensures err { OnErr result (self.new ≡ self.old) }
@@ -190,13 +190,13 @@ impl DomainUsers<'_> {
         let name = self.name(user);
         let refused = restart_answer(alloc, name, false)?;
         if self.users() != 1 {
-            return Ok(LetterAnswer::of_line(refused));
+            return Ok(QueuedAnswer::of_line(refused));
         }
         let done = restart_answer(alloc, name, true)?;
         Ok(if self.begin_anew(rt) {
-            LetterAnswer::of_restart(done)
+            QueuedAnswer::of_restart(done)
         } else {
-            LetterAnswer::of_line(refused)
+            QueuedAnswer::of_line(refused)
         })
     }
 
@@ -233,13 +233,13 @@ impl DomainUsers<'_> {
         user: usize,
         number: u64,
         node: Option<u8>,
-    ) -> Result<LetterAnswer, NoMemory>
+    ) -> Result<QueuedAnswer, NoMemory>
         requires { user < length self.now.sessions.items }
         ensures why { IfOk result (λ a. AnswersWhy self.now user number node (string_bytes a.lines.text)) }
         ensures anew { IfOk result (λ a. a.begins_anew ≡ false) }
     {
         let lines = self.lines_of_why(rt, alloc, user, number, node)?;
-        Ok(LetterAnswer::of_line(lines))
+        Ok(QueuedAnswer::of_line(lines))
     }
 
     // Begins the domain again for the operator, who names one of its users in the line of this number. Both texts are made before
@@ -250,7 +250,7 @@ impl DomainUsers<'_> {
         alloc: Global,
         user: usize,
         number: u64,
-    ) -> Result<LetterAnswer, NoMemory>
+    ) -> Result<QueuedAnswer, NoMemory>
         requires { user < length self.old.sessions.items }
         ensures operator { IfOk result (λ a. AnswersOperator self.old self.new user number a.begins_anew (string_bytes a.lines.text)) }
         ensures err { OnErr result (self.new ≡ self.old) }
@@ -260,46 +260,48 @@ impl DomainUsers<'_> {
         let done = operator_restart_answer(alloc, name)?;
         let refused = error_answer(alloc, "!", number, NotDone::Fault(LineFault::User))?;
         Ok(if self.begin_anew(rt) {
-            LetterAnswer::of_restart(done)
+            QueuedAnswer::of_restart(done)
         } else {
-            LetterAnswer::of_line(refused)
+            QueuedAnswer::of_line(refused)
         })
     }
 }
 
-/// Answers a letter to one of these users.
+/// Answers a line to one of these users.
 ///
 /// # Errors
 ///
 /// `NoMemory` if a command or the text ran out of memory. What a line of a script took before it stays. Any other line has changed
 /// nothing: a domain that can't be answered so doesn't begin again.
-pub fn answer_letter<R: Wait>(
+pub fn answer_queued<R: Wait>(
     rt: &R,
     alloc: Global,
-    group: &mut DomainUsers<'_>,
-    letter: &Letter,
-) -> Result<LetterAnswer, NoMemory>
-    requires { letter.now.user < length group.old.sessions.items }
-    ensures answer { IfOk result (AnswersLetter group.old group.new letter.now) }
-    ensures err { OnErr result (StaysAfterError group.old group.new letter.now.matter) }
+    group: &mut UserGroup<'_>,
+    queued: &QueuedLine,
+) -> Result<QueuedAnswer, NoMemory>
+    requires { queued.now.user < length group.old.sessions.items }
+    ensures answer { IfOk result (AnswersQueued group.old group.new queued.now) }
+    ensures err { OnErr result (StaysAfterError group.old group.new queued.now.request) }
     ensures same { IsSameDomain group.old group.new }
 {
-    let user = usize::from(letter.user);
-    match &letter.matter {
-        Matter::Asked(LiveRequest::Script(command)) => group.answer(rt, alloc, user, command),
-        Matter::Asked(LiveRequest::Domain(WholeRequest::Rest)) => {
+    let user = usize::from(queued.user);
+    match &queued.request {
+        QueuedRequest::Asked(LiveRequest::Script(command)) => group.answer(
+            rt, alloc, user, command,
+        ),
+        QueuedRequest::Asked(LiveRequest::Domain(WholeRequest::Rest)) => {
             group.answer_rest(rt, alloc, user)
         }
-        Matter::Asked(LiveRequest::Domain(WholeRequest::Restart)) => {
+        QueuedRequest::Asked(LiveRequest::Domain(WholeRequest::Restart)) => {
             group.answer_restart(rt, alloc, user)
         }
-        Matter::Asked(LiveRequest::Domain(WholeRequest::Why { node })) => {
-            group.answer_why(rt, alloc, user, letter.number, *node)
+        QueuedRequest::Asked(LiveRequest::Domain(WholeRequest::Why { node })) => {
+            group.answer_why(rt, alloc, user, queued.number, *node)
         }
-        Matter::Wrong(why) => {
-            let lines = error_answer(alloc, group.name(user), letter.number, *why)?;
-            Ok(LetterAnswer::of_line(lines))
+        QueuedRequest::Wrong(why) => {
+            let lines = error_answer(alloc, group.name(user), queued.number, *why)?;
+            Ok(QueuedAnswer::of_line(lines))
         }
-        Matter::OperatorRestart => group.answer_operator(rt, alloc, user, letter.number),
+        QueuedRequest::OperatorRestart => group.answer_operator(rt, alloc, user, queued.number),
     }
 }

@@ -3,7 +3,7 @@ ghost use Rattle.std.specs.Prelude.{◌≡◌};
 ghost use Rattle.record_keeping.specs.Counts.{saturated};
 ghost use Rattle.live_farm.specs.Asking.{commands_of_sessions, commands_of_pass, commands_asked, commands_listed};
 
-use crate::group::DomainUsers;
+use crate::group::UserGroup;
 use farm_service::{Session, UserPass};
 
 /// How many commands the users of a domain were answered since its journal began.
@@ -50,7 +50,7 @@ fn commands_of_passes(domain: u8, passes: &[UserPass]) -> u64
 
 impl AskedCommands {
     /// By the sessions of the domain's users.
-    pub fn of_group(group: &DomainUsers<'_>) -> AskedCommands
+    pub fn of_group(group: &UserGroup<'_>) -> AskedCommands
         ensures domain { result.domain ≡ group.now.domain }
         ensures commands { result.commands ≡ commands_asked group.now }
     {

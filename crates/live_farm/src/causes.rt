@@ -4,13 +4,13 @@ ghost use Rattle.record_following.specs.Following.{IsReached};
 ghost use Rattle.live_farm.specs.Groups.{IsStatusHere};
 ghost use Rattle.live_farm.specs.Whys.{IsToldOf, after_text, full_text, moment_text, stop_text, used_text};
 
-use crate::group::DomainUsers;
+use crate::group::UserGroup;
 use domain_core::{Entry, Mark, NoMemory};
 use farm_service::{DomainStatus, Service};
 use node_causes::explain_moment;
 use plan_checker::AcceptedPlan;
 use record_following::laws::moments_go_on;
-use record_following::{FollowFault, Follower};
+use record_following::{FollowFault, ReplayedDomain};
 use record_keeping::PIECE;
 use std::alloc::Global;
 use std::sync::Wait;
@@ -21,8 +21,8 @@ const MOST_AGAIN: u64 = 1 << 27;
 const ENTRY_COUNTS: u64 = 64;
 
 // A domain that follows the journal of one of a service.
-struct Shadow {
-    follower: Follower,
+struct JournalReplay {
+    replayed: ReplayedDomain,
     // How far the journal was copied.
     mark: Mark,
     // Reserved, for a piece of it.
@@ -32,10 +32,10 @@ struct Shadow {
 }
 
 // Dropped by hand, since a derived `Drop` makes callers prove the drop of each field.
-impl Drop for Shadow {
+impl Drop for JournalReplay {
     fn drop(self) {
-        let Shadow {
-            follower: _,
+        let JournalReplay {
+            replayed: _,
             mark: _,
             room: _,
             left: _,
@@ -43,15 +43,15 @@ impl Drop for Shadow {
     }
 }
 
-impl Shadow {
+impl JournalReplay {
     // The domain of this number of a plan as it is opened.
-    fn open(alloc: Global, plan: &AcceptedPlan, domain: u8) -> Result<Shadow, NoMemory>
+    fn open(alloc: Global, plan: &AcceptedPlan, domain: u8) -> Result<JournalReplay, NoMemory>
         requires { domain < length plan.now }
-        ensures { IfOk result (λ it. IsReached plan.now domain it.follower) }
+        ensures { IfOk result (λ it. IsReached plan.now domain it.replayed) }
     {
         let room = Vec::with_capacity(alloc, PIECE)?;
-        Ok(Shadow {
-            follower: Follower::open(alloc, plan, domain)?,
+        Ok(JournalReplay {
+            replayed: ReplayedDomain::open(alloc, plan, domain)?,
             mark: Mark::start(),
             room,
             left: MOST_AGAIN,
@@ -59,19 +59,19 @@ impl Shadow {
     }
 
     // Follows the next piece of the journal, until `end` events are recorded. The answer is whether more may follow.
-    fn follow_piece<R: Wait>(
+    fn apply_piece<R: Wait>(
         &mut self,
         rt: &R,
         service: &Service,
         domain: u8,
         end: u64,
     ) -> Result<bool, FollowFault>
-        requires { IsReached service.now.plan domain self.old.follower }
-        ensures { IfOk result (λ _. IsReached service.now.plan domain self.new.follower) }
+        requires { IsReached service.now.plan domain self.old.replayed }
+        ensures { IfOk result (λ _. IsReached service.now.plan domain self.new.replayed) }
     {
         // A moment that goes on is one after more calls.
         moments_go_on();
-        let before = self.follower.recorded_events();
+        let before = self.replayed.recorded_events();
         let most = end.min(before.saturating_add(self.left));
         if before >= most {
             return Ok(false);
@@ -84,27 +84,27 @@ impl Shadow {
             return Ok(false);
         }
         self.mark = mark;
-        self.follower.follow_entries(self.room.as_slice(), most)?;
-        let done = self.follower.recorded_events().saturating_sub(before);
+        self.replayed.apply_entries(self.room.as_slice(), most)?;
+        let done = self.replayed.recorded_events().saturating_sub(before);
         let entries = (self.room.len() as u64).saturating_mul(ENTRY_COUNTS);
         self.left = self.left.saturating_sub(done).saturating_sub(entries);
         Ok(true)
     }
 
     // Follows the journal until `end` events are recorded, or as far as is done again for one answer.
-    fn follow_journal<R: Wait>(
+    fn apply_journal<R: Wait>(
         &mut self,
         rt: &R,
         service: &Service,
         domain: u8,
         end: u64,
     ) -> Result<(), FollowFault>
-        requires { IsReached service.now.plan domain self.old.follower }
-        ensures { IfOk result (λ _. IsReached service.now.plan domain self.new.follower) }
+        requires { IsReached service.now.plan domain self.old.replayed }
+        ensures { IfOk result (λ _. IsReached service.now.plan domain self.new.replayed) }
     {
         // Each piece counts, so there are fewer.
         for _piece in 0..MOST_AGAIN {
-            if !self.follow_piece(rt, service, domain, end)? {
+            if !self.apply_piece(rt, service, domain, end)? {
                 break;
             }
         }
@@ -117,19 +117,19 @@ impl Shadow {
         &mut self,
         rt: &R,
         alloc: Global,
-        group: &DomainUsers<'_>,
+        group: &UserGroup<'_>,
         status: DomainStatus,
         node: Option<u8>,
     ) -> Result<String, FollowFault>
-        requires reached { IsReached group.now.service.now.plan group.now.domain self.old.follower }
+        requires reached { IsReached group.now.service.now.plan group.now.domain self.old.replayed }
         requires status { IsStatusHere group.now status }
         ensures { IfOk result (λ told. IsToldOf group.now node (string_bytes told)) }
     {
-        self.follow_journal(rt, group.service, group.domain, status.recorded)?;
-        let causes = explain_moment(alloc, &self.follower, node)?;
+        self.apply_journal(rt, group.service, group.domain, status.recorded)?;
+        let causes = explain_moment(alloc, &self.replayed, node)?;
         let (room, done) = (
             group.service.room().bytes(),
-            self.follower.recorded_events(),
+            self.replayed.recorded_events(),
         );
         Ok(tell(alloc, status, room, done, causes.as_str())?)
     }
@@ -206,13 +206,13 @@ fn tell(
 pub(crate) fn explain_domain<R: Wait>(
     rt: &R,
     alloc: Global,
-    group: &DomainUsers<'_>,
+    group: &UserGroup<'_>,
     status: DomainStatus,
     node: Option<u8>,
 ) -> Result<String, FollowFault>
     requires { IsStatusHere group.now status }
     ensures { IfOk result (λ told. IsToldOf group.now node (string_bytes told)) }
 {
-    let mut shadow = Shadow::open(alloc, group.service.plan(), group.domain)?;
-    shadow.tell_of_journal(rt, alloc, group, status, node)
+    let mut replay = JournalReplay::open(alloc, group.service.plan(), group.domain)?;
+    replay.tell_of_journal(rt, alloc, group, status, node)
 }

@@ -2,7 +2,7 @@
 ghost use Rattle.std.specs.Prelude.{◌≡◌, map};
 ghost use Rattle.live_farm.specs.Fates.{begins_comment, IsWhose, IsFate, IsFateOfBeginning, IsFateOfFault, IsFateOfLine};
 
-use crate::letter::Matter;
+use crate::queued::QueuedRequest;
 use crate::texts::NotDone;
 use live_lines::{
     LiveFault, LiveLine, LiveRequest, OperatorRequest, is_operators, parse_live_line,

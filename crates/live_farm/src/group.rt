@@ -7,7 +7,7 @@ use line_answers::Quantum;
 use std::alloc::Global;
 
 /// The users of a domain, by their numbers there, each in a session of their own.
-pub struct DomainUsers<'a> {
+pub struct UserGroup<'a> {
     pub(crate) service: &'a Service,
     pub(crate) domain: u8,
     pub(crate) quantum: Quantum,
@@ -18,9 +18,9 @@ pub struct DomainUsers<'a> {
 }
 
 // Dropped by hand, since a derived `Drop` makes callers prove the drop of each field.
-impl Drop for DomainUsers<'_> {
+impl Drop for UserGroup<'_> {
     fn drop(self) {
-        let DomainUsers {
+        let UserGroup {
             service: _,
             domain: _,
             quantum: _,
@@ -30,14 +30,14 @@ impl Drop for DomainUsers<'_> {
     }
 }
 
-impl<'a> DomainUsers<'a> {
+impl<'a> UserGroup<'a> {
     /// The group of a domain of the plan, with nobody in it yet.
-    pub fn new(alloc: Global, service: &'a Service, domain: u8, quantum: Quantum) -> DomainUsers<'a>
+    pub fn new(alloc: Global, service: &'a Service, domain: u8, quantum: Quantum) -> UserGroup<'a>
         requires { domain < length service.now.plan }
         ensures sessions { result.sessions.items ≡ [] }
         ensures domain { result.domain ≡ domain }
     {
-        DomainUsers {
+        UserGroup {
             service,
             domain,
             quantum,
@@ -82,7 +82,7 @@ impl<'a> DomainUsers<'a> {
 
     /// Ends all sessions, and adds their passes.
     pub fn end(self, passes: &mut Vec<UserPass>) -> Result<(), NoMemory> {
-        let DomainUsers {
+        let UserGroup {
             service: _,
             domain: _,
             quantum: _,

@@ -5,7 +5,7 @@ ghost use Rattle.live_farm.specs.declared.mailbox.Sent.TheVariants.{Waits, Full}
 ghost use Rattle.live_farm.specs.declared.mailbox.Mail.TheVariants.{News};
 ghost use Rattle.live_farm.specs.Mailboxes.{IsFirst};
 
-use crate::letter::Letter;
+use crate::queued::QueuedLine;
 use domain_core::NoMemory;
 use std::alloc::Global;
 use std::collections::VecDeque;
@@ -16,8 +16,8 @@ pub const MOST_WAITING: usize = 1024;
 
 // What waits for a thread: never more than `MOST_WAITING` lines. Memory for that many is reserved.
 #[derive(Drop)]
-struct Letters {
-    waiting: VecDeque<Letter>,
+struct QueuedLines {
+    waiting: VecDeque<QueuedLine>,
     // Whether there is news to report.
     has_news: bool,
     closed: bool,
@@ -25,26 +25,26 @@ struct Letters {
     ghost reserved: { 1024 ≤ deque_capacity waiting },
 }
 
-impl Letters {
-    // Puts a letter at the end, if fewer wait than may.
-    fn add(&mut self, letter: Letter) -> Sent
-        ensures waits { length self.old.waiting.items < 1024 → (result ≡ Waits) × (self.new.waiting.items ≡ self.old.waiting.items ++ letter ∷ []) }
+impl QueuedLines {
+    // Puts a line at the end, if fewer wait than may.
+    fn add(&mut self, queued: QueuedLine) -> Sent
+        ensures waits { length self.old.waiting.items < 1024 → (result ≡ Waits) × (self.new.waiting.items ≡ self.old.waiting.items ++ queued ∷ []) }
         ensures full { 1024 ≤ length self.old.waiting.items → (result ≡ Full) × (self.new ≡ self.old) }
         ensures same { (self.new.has_news ≡ self.old.has_news) × (self.new.closed ≡ self.old.closed) }
     {
         if self.waiting.len() >= MOST_WAITING {
             return Sent::Full;
         }
-        if self.waiting.push_back(letter).is_err() {
+        if self.waiting.push_back(queued).is_err() {
             return Sent::NoMemory;
         }
         Sent::Waits
     }
 
-    // Takes the news, or else the letter that waits for the longest.
+    // Takes the news, or else the line that waits for the longest.
     fn next(&mut self) -> Mail
         ensures news { self.old.has_news ≡ true → (result ≡ News) × (self.new ≡ record self.old { has_news = false }) }
-        ensures letter { self.old.has_news ≡ false → IsFirst result self.old.waiting.items self.new.waiting.items × (self.new.has_news ≡ false) }
+        ensures queued { self.old.has_news ≡ false → IsFirst result self.old.waiting.items self.new.waiting.items × (self.new.has_news ≡ false) }
         ensures same { self.new.closed ≡ self.old.closed }
     {
         if self.has_news {
@@ -52,13 +52,13 @@ impl Letters {
             return Mail::News;
         }
         match self.waiting.pop_front() {
-            Some(letter) => Mail::Letter(letter),
+            Some(queued) => Mail::Line(queued),
             None => Mail::End,
         }
     }
 }
 
-/// What became of a letter.
+/// What became of a line.
 #[derive(Clone, Copy)]
 pub enum Sent {
     /// It waits for its thread.
@@ -73,7 +73,7 @@ pub enum Sent {
 #[derive(Drop)]
 pub enum Mail {
     /// A line.
-    Letter(Letter),
+    Line(QueuedLine),
     /// There is news to report.
     News,
     /// The mailbox is closed and empty.
@@ -82,7 +82,7 @@ pub enum Mail {
 
 /// The lines that wait for a thread, at most `MOST_WAITING`.
 pub struct Mailbox {
-    letters: Mutex<Letters>,
+    lines: Mutex<QueuedLines>,
     changed: Condvar,
 }
 
@@ -90,7 +90,7 @@ pub struct Mailbox {
 impl Drop for Mailbox {
     fn drop(self) {
         let Mailbox {
-            letters: _,
+            lines: _,
             changed: _,
         } = self;
     }
@@ -100,7 +100,7 @@ impl Mailbox {
     /// An empty mailbox. It has memory for all lines that may wait.
     pub fn new(alloc: Global) -> Result<Mailbox, NoMemory> {
         Ok(Mailbox {
-            letters: Mutex::new(Letters {
+            lines: Mutex::new(QueuedLines {
                 waiting: VecDeque::with_capacity(alloc, MOST_WAITING)?,
                 has_news: false,
                 closed: false,
@@ -109,35 +109,33 @@ impl Mailbox {
         })
     }
 
-    /// Puts a letter at the end, if fewer wait than may.
-    pub fn put<R: Wait>(&self, rt: &R, letter: Letter) -> Sent {
-        let mut letters = self.letters.lock(rt);
-        let sent = letters.add(letter);
+    /// Puts a line at the end, if fewer wait than may.
+    pub fn put<R: Wait>(&self, rt: &R, queued: QueuedLine) -> Sent {
+        let mut lines = self.lines.lock(rt);
+        let sent = lines.add(queued);
         self.changed.notify_one();
         sent
     }
 
     /// Wakes the thread, since there is news to report.
     pub fn wake<R: Wait>(&self, rt: &R) {
-        let mut letters = self.letters.lock(rt);
-        letters.has_news = true;
+        let mut lines = self.lines.lock(rt);
+        lines.has_news = true;
         self.changed.notify_one();
     }
 
-    /// Says that no more letters come.
+    /// Says that no more lines come.
     pub fn close<R: Wait>(&self, rt: &R) {
-        let mut letters = self.letters.lock(rt);
-        letters.closed = true;
+        let mut lines = self.lines.lock(rt);
+        lines.closed = true;
         self.changed.notify_all();
     }
 
-    /// Waits for a letter or for news, and takes it.
+    /// Waits for a line or for news, and takes it.
     pub fn take<R: Wait>(&self, rt: &R) -> Mail {
-        let mut letters = self
-            .changed
-            .wait_while(rt, self.letters.lock(rt), |letters| {
-                letters.waiting.is_empty() && !letters.has_news && !letters.closed
-            });
-        letters.next()
+        let mut lines = self.changed.wait_while(rt, self.lines.lock(rt), |lines| {
+            lines.waiting.is_empty() && !lines.has_news && !lines.closed
+        });
+        lines.next()
     }
 }

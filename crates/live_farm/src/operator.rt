@@ -2,7 +2,7 @@
 ghost use Rattle.std.specs.Prelude.{◌≡◌, ◌<◌};
 ghost use Rattle.farm_service.specs.Services.{IsItsOperator};
 
-use crate::crew::Crew;
+use crate::farm_users::FarmUsers;
 use crate::record::RecordState;
 use crate::station::Station;
 use crate::texts::LiveAnswer;
@@ -110,14 +110,15 @@ impl<'a> Operator<'a> {
         &self,
         rt: &R,
         alloc: Global,
-        crew: &Crew<'_>,
+        farm_users: &FarmUsers<'_>,
         place: usize,
     ) -> Result<Option<LiveAnswer>, NoMemory> {
-        let (Some(name), Some(whose)) = (crew.names.get(place), crew.numbers.get(place)) else {
+        let (Some(name), Some(whose)) = (farm_users.names.get(place), farm_users.numbers.get(place))
+        else {
             return Ok(None);
         };
         let UserNumber { domain, user } = *whose;
-        let Some(station) = crew.stations.get(usize::from(domain)) else {
+        let Some(station) = farm_users.stations.get(usize::from(domain)) else {
             return Ok(None);
         };
         match self.service.status(rt, domain) {

@@ -5,17 +5,17 @@ ghost use Rattle.whole_farm.specs.Places.{places_of};
 ghost use Rattle.farm_service.specs.Closed.{AreDomainsOf, EachMergeRuns, AreListed, AllMetFullTruly, AllAreRightlyAsked};
 ghost use Rattle.live_lines.specs.LiveRanges.{IsInRange};
 ghost use Rattle.live_farm.specs.Asking.{commands_listed};
-ghost use Rattle.live_farm.specs.Crews.{number_of};
+ghost use Rattle.live_farm.specs.FarmUsers.{user_number_of};
 ghost use Rattle.live_farm.specs.Closings.{AreUsersListed, HasListed, HasListedAt, HaveListed, WasAskedAt, AllWereAsked, AreUsersRecorded};
 
 use crate::asked::AskedCommands;
-use crate::crew::{Crew, RestGate};
 use crate::failure::{LiveFailure, LiveStop};
+use crate::farm_users::{FarmUsers, RestGate};
 use crate::operator::Operator;
 use crate::outlet::SharedOutlet;
 use crate::outputs::LiveOutputs;
 use crate::record::{RecordOutputs, RecordState, SharedRecord, keep_and_tell};
-use crate::threads::run_crew;
+use crate::threads::run_farm_users;
 use domain_core::Refusal;
 use farm_service::{
     Closed, Histories, Opened, Service, UserPass, WorkerPass, run_users_and_workers,
@@ -51,7 +51,7 @@ fn run_all<
     service: &Service,
     passes: &mut Vec<WorkerPass>,
     steps: u64,
-    crew: &Crew<'_>,
+    farm_users: &FarmUsers<'_>,
     outputs: &LiveOutputs<'_, K, O, N>,
     reader: &mut LiveReader<'_, '_, I>,
 ) -> Result<(), LiveFailure>
@@ -61,14 +61,21 @@ fn run_all<
 {
     let alloc = reader.alloc;
     let act = |_place: usize, reader: &mut LiveReader<'_, '_, I>| {
-        reader.ended = run_crew(rt, alloc, crew, outputs, &mut reader.operator, reader.input);
+        reader.ended = run_farm_users(
+            rt,
+            alloc,
+            farm_users,
+            outputs,
+            &mut reader.operator,
+            reader.input,
+        );
     };
     run_users_and_workers(
         rt,
         alloc,
         service,
         passes,
-        &RestGate { crew },
+        &RestGate { farm_users },
         steps,
         &act,
         slice::from_mut(reader),
@@ -96,15 +103,23 @@ fn serve_all<
     requires settings { IsInRange settings.now }
     requires passes { AreItsPasses service.now.plan service.now.queue passes.old.items }
     ensures passes { OnOk result (AreItsPasses service.now.plan service.now.queue passes.new.items) }
-    ensures users { IfOk result (λ back. map number_of back.items ≡ map number_of users.items) }
+    ensures users { IfOk result (λ back. map user_number_of back.items ≡ map user_number_of users.items) }
     ensures kept { IfOk result (λ back. HaveListed K.has_kept K.was_out service.now.plan back.items outputs.now.records.now) }
 {
     let alloc = reader.alloc;
     let quantum = Quantum::of(settings.quantum);
     let room = Vec::with_capacity(alloc, users.len())?;
-    let crew = Crew::new(alloc, service, users, quantum, settings.record_room)?;
-    run_all(rt, service, passes, quantum.steps(), &crew, outputs, reader)?;
-    let back = crew.end(room)?;
+    let farm_users = FarmUsers::new(alloc, service, users, quantum, settings.record_room)?;
+    run_all(
+        rt,
+        service,
+        passes,
+        quantum.steps(),
+        &farm_users,
+        outputs,
+        reader,
+    )?;
+    let back = farm_users.end(room)?;
     let kept = keep_rest(rt, alloc, service, back.as_slice(), outputs);
     reader.ended?;
     kept?;

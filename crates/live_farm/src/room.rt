@@ -1,6 +1,6 @@
 //! How much room a line may need in its domain, and in the domain's records.
 
-use crate::letter::Matter;
+use crate::queued::QueuedRequest;
 use domain_core::{ENTRY_BYTES, LOOK_BYTES, QUEUE_BYTES, TOLD_BYTES};
 use live_lines::LiveRequest;
 use script_lines::Command;
@@ -22,11 +22,13 @@ fn most_commands(command: &Command) -> u64 {
     }
 }
 
-/// How many commands a matter asks at the most.
-pub(crate) fn commands_of(matter: &Matter) -> u64 {
-    match matter {
-        Matter::Asked(LiveRequest::Script(command)) => most_commands(command),
-        Matter::Asked(LiveRequest::Domain(_)) | Matter::Wrong(_) | Matter::OperatorRestart => 0,
+/// How many commands a request asks at the most.
+pub(crate) fn commands_of(request: &QueuedRequest) -> u64 {
+    match request {
+        QueuedRequest::Asked(LiveRequest::Script(command)) => most_commands(command),
+        QueuedRequest::Asked(LiveRequest::Domain(_))
+        | QueuedRequest::Wrong(_)
+        | QueuedRequest::OperatorRestart => 0,
     }
 }
 

@@ -1,14 +1,14 @@
 //! A domain's thread: it answers the lines that come to its mailbox.
 ghost use Rattle.std.specs.Prelude.{◌≡◌, ◌<◌, ◌⊎◌, false, length, IfOk, string_bytes};
 ghost use Rattle.live_farm.specs.Asking.{commands_asked};
-ghost use Rattle.live_farm.specs.Groups.{AllStay, AnswersLetter, TellsUnrecorded, TellsFull, may_be_answered};
+ghost use Rattle.live_farm.specs.Groups.{AllStay, AnswersQueued, TellsUnrecorded, TellsFull, may_be_answered};
 
-use crate::answering::{LetterAnswer, answer_letter};
+use crate::answering::{QueuedAnswer, answer_queued};
 use crate::asked::AskedCommands;
-use crate::group::DomainUsers;
-use crate::letter::{Letter, Matter};
+use crate::group::UserGroup;
 use crate::mailbox::{Mail, Mailbox};
 use crate::outlet::SharedOutlet;
+use crate::queued::{QueuedLine, QueuedRequest};
 use crate::record::{
     RecordOutputs, RecordSizes, RecordState, SharedRecord, keep_and_tell, trim_and_tell,
 };
@@ -30,7 +30,7 @@ pub struct Station<'a> {
     /// The lines that wait.
     pub mailbox: Mailbox,
     // Its thread holds the lock as long as it runs.
-    group: Mutex<DomainUsers<'a>>,
+    group: Mutex<UserGroup<'a>>,
     answered: Vec<AtomicU64>,
     out_of_memory: AtomicBool,
     // How it is with its record: whether something isn't recorded, and whether the record can't be taken.
@@ -66,7 +66,7 @@ impl<'a> Station<'a> {
     /// The station of a domain's users. The records of the domain may take `record_room` bytes.
     pub fn new(
         alloc: Global,
-        group: DomainUsers<'a>,
+        group: UserGroup<'a>,
         record_room: u64,
     ) -> Result<Station<'a>, NoMemory> {
         let answered = counts_of(alloc, group.users())?;
@@ -139,7 +139,7 @@ impl<'a> Station<'a> {
     }
 
     /// The users, when the thread has ended.
-    pub fn into_group(self) -> DomainUsers<'a> {
+    pub fn into_group(self) -> UserGroup<'a> {
         let Station {
             mailbox: _,
             group,
@@ -156,9 +156,9 @@ impl<'a> Station<'a> {
     }
 
     // Counts a line that was answered. The operator's are nobody's.
-    fn count(&self, letter: &Letter) {
-        if let Some(count) = self.answered.get(usize::from(letter.user))
-            && !matches!(letter.matter, Matter::OperatorRestart)
+    fn count(&self, queued: &QueuedLine) {
+        if let Some(count) = self.answered.get(usize::from(queued.user))
+            && !matches!(queued.request, QueuedRequest::OperatorRestart)
         {
             count.fetch_add(1, Ordering::SeqCst);
         }
@@ -174,72 +174,72 @@ fn counts_of(alloc: Global, users: usize) -> Result<Vec<AtomicU64>, NoMemory> {
     Ok(answered)
 }
 
-// That a letter can't be recorded.
+// That a line can't be recorded.
 fn record_answer(
     alloc: Global,
-    group: &DomainUsers<'_>,
-    letter: &Letter,
+    group: &UserGroup<'_>,
+    queued: &QueuedLine,
 ) -> Result<LiveAnswer, NoMemory>
-    requires { letter.now.user < length group.now.sessions.items }
-    ensures { IfOk result (λ a. TellsUnrecorded group.now letter.now (string_bytes a.text)) }
+    requires { queued.now.user < length group.now.sessions.items }
+    ensures { IfOk result (λ a. TellsUnrecorded group.now queued.now (string_bytes a.text)) }
 {
-    let name = group.name(usize::from(letter.user));
-    match letter.matter {
-        Matter::OperatorRestart => error_answer(alloc, "!", letter.number, NotDone::Record),
-        Matter::Asked(_) | Matter::Wrong(_) => {
-            error_answer(alloc, name, letter.number, NotDone::Record)
+    let name = group.name(usize::from(queued.user));
+    match queued.request {
+        QueuedRequest::OperatorRestart => error_answer(alloc, "!", queued.number, NotDone::Record),
+        QueuedRequest::Asked(_) | QueuedRequest::Wrong(_) => {
+            error_answer(alloc, name, queued.number, NotDone::Record)
         }
     }
 }
 
-// What a letter is answered, and what came of it.
+// What a line is answered, and what came of it.
 #[derive(Drop)]
-struct AnsweredLetter {
-    answer: LetterAnswer,
+struct AnsweredLine {
+    answer: QueuedAnswer,
     // Whether the domain was asked.
     is_asked: bool,
     state: RecordState,
 }
 
-// Whether a letter is answered, if the record is in this state.
-fn may_answer(state: RecordState, matter: &Matter) -> bool
-    ensures { result ≡ may_be_answered state matter.now }
+// Whether a line is answered, if the record is in this state.
+fn may_answer(state: RecordState, request: &QueuedRequest) -> bool
+    ensures { result ≡ may_be_answered state request.now }
 {
-    match (state, matter) {
-        (RecordState::Kept, _) | (RecordState::Out, Matter::OperatorRestart) => true,
+    match (state, request) {
+        (RecordState::Kept, _) | (RecordState::Out, QueuedRequest::OperatorRestart) => true,
         (RecordState::Unrecorded | RecordState::Out, _) => false,
     }
 }
 
-// That the domain has no room for what a letter asks.
+// That the domain has no room for what a line asks.
 fn full_answer(
     alloc: Global,
-    group: &DomainUsers<'_>,
-    letter: &Letter,
+    group: &UserGroup<'_>,
+    queued: &QueuedLine,
 ) -> Result<LiveAnswer, NoMemory>
-    requires { letter.now.user < length group.now.sessions.items }
-    ensures { IfOk result (λ a. TellsFull group.now letter.now (string_bytes a.text)) }
+    requires { queued.now.user < length group.now.sessions.items }
+    ensures { IfOk result (λ a. TellsFull group.now queued.now (string_bytes a.text)) }
 {
-    let name = group.name(usize::from(letter.user));
-    match letter.matter {
-        Matter::OperatorRestart => error_answer(alloc, "!", letter.number, NotDone::Full),
-        Matter::Asked(_) | Matter::Wrong(_) => error_answer(
+    let name = group.name(usize::from(queued.user));
+    match queued.request {
+        QueuedRequest::OperatorRestart => error_answer(alloc, "!", queued.number, NotDone::Full),
+        QueuedRequest::Asked(_) | QueuedRequest::Wrong(_) => error_answer(
             alloc,
             name,
-            letter.number,
+            queued.number,
             NotDone::Full,
         ),
     }
 }
 
-// Whether the domain has room for what a letter asks at the most, and its records have.
+// Whether the domain has room for what a line asks at the most, and its records have.
 fn has_room_for<R: Wait>(
     rt: &R,
-    group: &DomainUsers<'_>,
-    letter: &Letter,
+    group: &UserGroup<'_>,
+    queued: &QueuedLine,
     station: &Station<'_>,
 ) -> bool {
-    let commands = commands_of(&letter.matter);
+    let commands = commands_of(&queued.request);
     let room = group.service.room().bytes();
     match group.service.room_status(rt, group.domain) {
         Ok(status) => {
@@ -249,7 +249,7 @@ fn has_room_for<R: Wait>(
     }
 }
 
-// Answers a letter, and records what the domain answered by then before the answer is given to anybody: the record has at least
+// Answers a line, and records what the domain answered by then before the answer is given to anybody: the record has at least
 // as many commands as all users of the domain were answered. If the state of the record doesn't allow an answer, or if there is
 // no room, the domain is asked nothing.
 fn answer_and_keep<R: Wait, K: SharedRecord, N: Notices>(
@@ -257,33 +257,33 @@ fn answer_and_keep<R: Wait, K: SharedRecord, N: Notices>(
     alloc: Global,
     state: RecordState,
     has_room: bool,
-    group: &mut DomainUsers<'_>,
-    letter: &Letter,
+    group: &mut UserGroup<'_>,
+    queued: &QueuedLine,
     outputs: &RecordOutputs<'_, K, N>,
-) -> Result<AnsweredLetter, NoMemory>
-    requires { letter.now.user < length group.old.sessions.items }
-    ensures answer { IfOk result (λ a. (AnswersLetter group.old group.new letter.now a.answer
+) -> Result<AnsweredLine, NoMemory>
+    requires { queued.now.user < length group.old.sessions.items }
+    ensures answer { IfOk result (λ a. (AnswersQueued group.old group.new queued.now a.answer
         × K.has_kept outputs.now.«record».now group.old.service.now.plan group.old.domain (commands_asked group.new))
-        ⊎ (TellsUnrecorded group.new letter.now (string_bytes a.answer.lines.text)
-        ⊎ (has_room ≡ false × AllStay group.old group.new × TellsFull group.new letter.now (string_bytes a.answer.lines.text)))) }
-    ensures not_asked { may_be_answered state letter.now.matter ≡ false
-        → IfOk result (λ a. AllStay group.old group.new × TellsUnrecorded group.new letter.now (string_bytes a.answer.lines.text)) }
+        ⊎ (TellsUnrecorded group.new queued.now (string_bytes a.answer.lines.text)
+        ⊎ (has_room ≡ false × AllStay group.old group.new × TellsFull group.new queued.now (string_bytes a.answer.lines.text)))) }
+    ensures not_asked { may_be_answered state queued.now.request ≡ false
+        → IfOk result (λ a. AllStay group.old group.new × TellsUnrecorded group.new queued.now (string_bytes a.answer.lines.text)) }
 {
-    if !may_answer(state, &letter.matter) {
-        return Ok(AnsweredLetter {
-            answer: LetterAnswer::of_line(record_answer(alloc, group, letter)?),
+    if !may_answer(state, &queued.request) {
+        return Ok(AnsweredLine {
+            answer: QueuedAnswer::of_line(record_answer(alloc, group, queued)?),
             is_asked: false,
             state,
         });
     }
     if !has_room {
-        return Ok(AnsweredLetter {
-            answer: LetterAnswer::of_line(full_answer(alloc, group, letter)?),
+        return Ok(AnsweredLine {
+            answer: QueuedAnswer::of_line(full_answer(alloc, group, queued)?),
             is_asked: false,
             state,
         });
     }
-    let answer = answer_letter(rt, alloc, group, letter)?;
+    let answer = answer_queued(rt, alloc, group, queued)?;
     let state = keep_and_tell(
         rt,
         alloc,
@@ -295,22 +295,22 @@ fn answer_and_keep<R: Wait, K: SharedRecord, N: Notices>(
     let answer = match state {
         RecordState::Kept => answer,
         RecordState::Unrecorded | RecordState::Out => {
-            LetterAnswer::of_line(record_answer(alloc, group, letter)?)
+            QueuedAnswer::of_line(record_answer(alloc, group, queued)?)
         }
     };
-    Ok(AnsweredLetter {
+    Ok(AnsweredLine {
         answer,
         is_asked: true,
         state,
     })
 }
 
-// How it is with the record of a domain before a letter is answered. What couldn't be written is tried once more.
+// How it is with the record of a domain before a line is answered. What couldn't be written is tried once more.
 fn state_before<R: Wait, K: SharedRecord, N: Notices>(
     rt: &R,
     alloc: Global,
     station: &Station<'_>,
-    group: &DomainUsers<'_>,
+    group: &UserGroup<'_>,
     outputs: &RecordOutputs<'_, K, N>,
 ) -> Result<RecordState, NoMemory> {
     match station.record_state() {
@@ -322,32 +322,32 @@ fn state_before<R: Wait, K: SharedRecord, N: Notices>(
     }
 }
 
-// Answers a letter, counts it, and writes the answer. Only then the domain settles, if a line of a script was done.
-fn serve_letter<R: Wait, K: SharedRecord, O: SharedOutlet, N: Notices>(
+// Answers a line, counts it, and writes the answer. Only then the domain settles, if a line of a script was done.
+fn serve_queued<R: Wait, K: SharedRecord, O: SharedOutlet, N: Notices>(
     rt: &R,
     alloc: Global,
     station: &Station<'_>,
-    group: &mut DomainUsers<'_>,
-    letter: &Letter,
+    group: &mut UserGroup<'_>,
+    queued: &QueuedLine,
     outputs: &RecordOutputs<'_, K, N>,
     outlet: &O,
 ) -> Result<(), NoMemory>
-    requires { letter.now.user < length group.old.sessions.items }
+    requires { queued.now.user < length group.old.sessions.items }
 {
     let state = state_before(rt, alloc, station, group, outputs)?;
-    let has_room = has_room_for(rt, group, letter, station);
-    let answered = answer_and_keep(rt, alloc, state, has_room, group, letter, outputs)?;
+    let has_room = has_room_for(rt, group, queued, station);
+    let answered = answer_and_keep(rt, alloc, state, has_room, group, queued, outputs)?;
     station.note(answered.state);
-    station.count(letter);
-    // If there is no memory for a notice of an older record, the rest of this is left to the next letter.
+    station.count(queued);
+    // If there is no memory for a notice of an older record, the rest of this is left to the next line.
     let _ = note_records(rt, alloc, station, group, outputs);
     outlet.put_answer(rt, &answered.answer.lines);
-    if matches!(letter.matter, Matter::Wrong(NotDone::Memory)) {
+    if matches!(queued.request, QueuedRequest::Wrong(NotDone::Memory)) {
         group.service.halt(group.domain);
     }
-    let user = usize::from(letter.user);
+    let user = usize::from(queued.user);
     if answered.is_asked
-        && matches!(letter.matter, Matter::Asked(LiveRequest::Script(_)))
+        && matches!(queued.request, QueuedRequest::Asked(LiveRequest::Script(_)))
         && user < group.users()
         && group.settle(rt, alloc, user).is_err()
     {
@@ -362,7 +362,7 @@ fn note_records<R: Wait, K: SharedRecord, N: Notices>(
     rt: &R,
     alloc: Global,
     station: &Station<'_>,
-    group: &DomainUsers<'_>,
+    group: &UserGroup<'_>,
     outputs: &RecordOutputs<'_, K, N>,
 ) -> Result<(), NoMemory> {
     let room = station.record_room();
@@ -380,7 +380,7 @@ fn tell_rest<R: Wait, O: SharedOutlet, N: Notices>(
     rt: &R,
     alloc: Global,
     station: &Station<'_>,
-    group: &DomainUsers<'_>,
+    group: &UserGroup<'_>,
     outlet: &O,
     errors: &N,
 ) -> Result<(), NoMemory> {
@@ -403,54 +403,54 @@ fn tell_rest<R: Wait, O: SharedOutlet, N: Notices>(
     Ok(())
 }
 
-// Answers that there was no memory for a letter, in the memory of a text. The domain rests from then on.
+// Answers that there was no memory for a line, in the memory of a text. The domain rests from then on.
 fn answer_want<R: Wait, O: SharedOutlet>(
     rt: &R,
     alloc: Global,
     station: &Station<'_>,
-    group: &DomainUsers<'_>,
-    letter: &Letter,
+    group: &UserGroup<'_>,
+    queued: &QueuedLine,
     outlet: &O,
     spare: &mut String,
 )
-    requires { letter.now.user < length group.now.sessions.items }
+    requires { queued.now.user < length group.now.sessions.items }
 {
     group.service.halt(group.domain);
-    station.count(letter);
-    let name = match letter.matter {
-        Matter::OperatorRestart => "!",
-        Matter::Asked(_) | Matter::Wrong(_) => group.name(usize::from(letter.user)),
+    station.count(queued);
+    let name = match queued.request {
+        QueuedRequest::OperatorRestart => "!",
+        QueuedRequest::Asked(_) | QueuedRequest::Wrong(_) => group.name(usize::from(queued.user)),
     };
     let text = mem::replace(spare, String::new(alloc));
-    if let Ok(answer) = error_answer_in(text, name, letter.number, NotDone::Memory) {
+    if let Ok(answer) = error_answer_in(text, name, queued.number, NotDone::Memory) {
         outlet.put_answer(rt, &answer);
         *spare = answer.into_text();
     }
 }
 
-// Takes the next letter and answers it; whether more may come. Once a write has failed nothing more is asked.
+// Takes the next line and answers it; whether more may come. Once a write has failed nothing more is asked.
 fn serve_next<R: Wait, K: SharedRecord, O: SharedOutlet, N: Notices>(
     rt: &R,
     alloc: Global,
     station: &Station<'_>,
-    group: &mut DomainUsers<'_>,
+    group: &mut UserGroup<'_>,
     outputs: &RecordOutputs<'_, K, N>,
     outlet: &O,
     spare: &mut String,
 ) -> bool {
-    let letter = match station.mailbox.take(rt) {
-        Mail::Letter(letter) => letter,
+    let queued = match station.mailbox.take(rt) {
+        Mail::Line(queued) => queued,
         Mail::News => {
             let _ = tell_rest(rt, alloc, station, group, outlet, outputs.errors);
             return true;
         }
         Mail::End => return false,
     };
-    if usize::from(letter.user) < group.users() && !outlet.has_failed(rt) {
-        if serve_letter(rt, alloc, station, group, &letter, outputs, outlet).is_err()
-            && usize::from(letter.user) < group.users()
+    if usize::from(queued.user) < group.users() && !outlet.has_failed(rt) {
+        if serve_queued(rt, alloc, station, group, &queued, outputs, outlet).is_err()
+            && usize::from(queued.user) < group.users()
         {
-            answer_want(rt, alloc, station, group, &letter, outlet, spare);
+            answer_want(rt, alloc, station, group, &queued, outlet, spare);
         }
         // Notices for which there is no memory are left out.
         let _ = tell_rest(rt, alloc, station, group, outlet, outputs.errors);
@@ -458,7 +458,7 @@ fn serve_next<R: Wait, K: SharedRecord, O: SharedOutlet, N: Notices>(
     true
 }
 
-/// Answers letters, in their order, until the mailbox is closed and empty. Once a write has failed nothing more is asked. A line
+/// Answers lines, in their order, until the mailbox is closed and empty. Once a write has failed nothing more is asked. A line
 /// for which there is no memory is answered `memory`, and the domain rests from then on until it begins again.
 pub fn serve<R: Wait, K: SharedRecord, O: SharedOutlet, N: Notices>(
     rt: &R,

@@ -1,8 +1,8 @@
 //! The threads of a farm that stays up.
 
-use crate::crew::Crew;
-use crate::desk::Desk;
+use crate::dispatcher::Dispatcher;
 use crate::failure::LiveStop;
+use crate::farm_users::FarmUsers;
 use crate::operator::Operator;
 use crate::outlet::SharedOutlet;
 use crate::outputs::LiveOutputs;
@@ -33,15 +33,15 @@ fn run_stations<
 >(
     rt: &R,
     stations: &[Station<'_>],
-    desk: &Desk<'_, '_>,
+    dispatcher: &Dispatcher<'_, '_>,
     outputs: &LiveOutputs<'_, K, O, N>,
     operator: &mut Operator<'_>,
     input: &mut I,
 ) -> Result<(), LiveStop> {
-    let alloc = desk.alloc;
+    let alloc = dispatcher.alloc;
     let (records, outlet, errors) = (outputs.records, outputs.outlet, outputs.errors);
     thread::scope(thread::scope_env(), rt, |scope| {
-        let service = desk.crew.service;
+        let service = dispatcher.farm_users.service;
         let interval = Duration::from_millis(PACE_MILLISECONDS);
         let mut started = scope
             .spawn(move || service.keep_pace(rt, PACED_EVENTS, interval))
@@ -58,7 +58,7 @@ fn run_stations<
             }
         }
         let ended = if started {
-            desk.read_lines(rt, outlet, operator, input, errors)
+            dispatcher.read_lines(rt, outlet, operator, input, errors)
         } else {
             Err(LiveStop::Threads)
         };
@@ -72,7 +72,7 @@ fn run_stations<
 
 /// Answers all lines, each domain's with the record of its place, up to the end of the input, or until the operator stops. If a thread can't
 /// be started no line is read. All threads have ended when the call returns.
-pub fn run_crew<
+pub fn run_farm_users<
     R: Threads + Wait + Sync,
     K: SharedRecord + Sync,
     I: BufRead,
@@ -81,19 +81,19 @@ pub fn run_crew<
 >(
     rt: &R,
     alloc: Global,
-    crew: &Crew<'_>,
+    farm_users: &FarmUsers<'_>,
     outputs: &LiveOutputs<'_, K, O, N>,
     operator: &mut Operator<'_>,
     input: &mut I,
 ) -> Result<(), LiveStop> {
-    let desk = Desk { crew, alloc };
+    let dispatcher = Dispatcher { farm_users, alloc };
     run_stations(
         rt,
-        crew.stations.as_slice(),
-        &desk,
+        farm_users.stations.as_slice(),
+        &dispatcher,
         outputs,
         operator,
         input,
     )?;
-    desk.look(rt, outputs.outlet)
+    dispatcher.look(rt, outputs.outlet)
 }

@@ -10,7 +10,7 @@ use Rattle.clap.specs.declared.builder.arg.Arg.{Arg}
 use Rattle.clap.proofs.OnLiterals.{clap_on_literals}
 use Rattle.live_lines.specs.LiveSettings.{live_command}
 
--- the program's command is one of which `clap` defines the matches
+-- `clap` defines the matches of the program's command
 pub live_is_simple : is_simple live_command ≡ true
 unfolding clap_on_literals
 live_is_simple = refl

@@ -6,9 +6,9 @@ use Rattle.script_lines.specs.declared.fault.LineFault.TheVariants as fault
 use Rattle.script_lines.specs.Words.{words_between}
 use Rattle.script_lines.specs.declared.command.Command.{Command}
 use Rattle.script_lines.specs.Lines.{IsRestFault}
-use Rattle.help_lines.specs.declared.verb.HelpVerb.{HelpVerb}
-use Rattle.help_lines.specs.HelpVerbs.{help_name}
-use Rattle.help_lines.specs.HelpLines.{IsOfHelp, HelpAsks}
+use Rattle.shorthand_lines.specs.declared.verb.ShorthandVerb.{ShorthandVerb}
+use Rattle.shorthand_lines.specs.ShorthandVerbs.{shorthand_name}
+use Rattle.shorthand_lines.specs.ShorthandLines.{IsShorthand, ShorthandAsks}
 use Rattle.live_lines.specs.declared.asked.LiveLine.{LiveLine}
 use Rattle.live_lines.specs.declared.fault.LiveFault.{LiveFault}
 use Rattle.live_lines.specs.declared.fault.LiveFault.TheVariants as live_fault
@@ -27,21 +27,21 @@ not_of_domain rest behind word is none verb arguments of = none verb (ap (first 
     first d [] = d
     first d (x ∷ xs) = x
 
--- if it is no verb that helps, the words ask nothing by one
+-- if it is no shorthand verb, the words ask nothing by one
 pub not_of_help : (rest behind : List (List ℕ)) (word : List ℕ)
-    → rest ≡ word ∷ behind → ((v : HelpVerb) → ¬ (word ≡ help_name v))
-    → (verb : HelpVerb) (arguments : List (List ℕ))
-    → ¬ IsOfHelp rest verb arguments
+    → rest ≡ word ∷ behind → ((v : ShorthandVerb) → ¬ (word ≡ shorthand_name v))
+    → (verb : ShorthandVerb) (arguments : List (List ℕ))
+    → ¬ IsShorthand rest verb arguments
 not_of_help rest behind word is none verb arguments of = none verb (ap (first word) (sym is ∙ of))
   where
     first : List ℕ → List (List ℕ) → List ℕ
     first d [] = d
     first d (x ∷ xs) = x
 
--- what a script refuses is refused, if its verb is none of the domain as a whole and none that helps
+-- what a script refuses is refused, if its verb is none of the domain as a whole and no shorthand verb
 pub live_refused : (rest : List (List ℕ)) (f : LineFault)
     → ((verb : DomainVerb) (arguments : List (List ℕ)) → ¬ IsOfDomain rest verb arguments)
-    → ((verb : HelpVerb) (arguments : List (List ℕ)) → ¬ IsOfHelp rest verb arguments)
+    → ((verb : ShorthandVerb) (arguments : List (List ℕ)) → ¬ IsShorthand rest verb arguments)
     → IsRestFault rest f
     → IsLiveRestFault rest f
 live_refused rest fault.User none no_help wrong = wrong
@@ -49,11 +49,12 @@ live_refused rest fault.Verb none no_help wrong = (wrong, none, no_help)
 live_refused rest fault.Args none no_help wrong = inl wrong
 live_refused rest fault.Hex none no_help wrong = wrong
 
--- if nothing is asked by a verb that helps, the words after it are wrong
-pub help_refused : (rest arguments : List (List ℕ)) (verb : HelpVerb) (f : LineFault) → IsOfHelp rest verb arguments
-    → (f ≡ fault.Args) × ((c : Command) → ¬ HelpAsks verb arguments c)
+-- if nothing is asked by a shorthand verb, the words after it are wrong
+pub shorthand_refused : (rest arguments : List (List ℕ)) (verb : ShorthandVerb) (f : LineFault)
+    → IsShorthand rest verb arguments
+    → (f ≡ fault.Args) × ((c : Command) → ¬ ShorthandAsks verb arguments c)
     → IsLiveRestFault rest f
-help_refused rest arguments verb f of wrong =
+shorthand_refused rest arguments verb f of wrong =
     subst (IsLiveRestFault rest) (sym wrong.0) (inr (inr (verb, arguments, of, wrong.1)))
 
 -- if a line isn't the operator's, what is wrong with it as a user's line is wrong with it

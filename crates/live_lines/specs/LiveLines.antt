@@ -1,12 +1,13 @@
--- A line of a farm that stays up: a line of a script; one that helps; `USER rest`, `USER restart`, `USER why` or `USER
+-- A line of a farm that stays up: a line of a script; a shorthand line; `USER rest`, `USER restart`, `USER why` or
+-- `USER
 -- why NODE`; or one of the operator, which begins with `!`: `!words`, `!users`, `!memory`, `!restart USER` or `!stop`.
 use Rattle.std.specs.Prelude.{◌≡◌, ◌==◌, ◌⊎◌, ℕ, Bool, true, false, List, [], ◌∷◌, Some, None, ⊤}
 use Rattle.script_lines.specs.declared.fault.LineFault.{LineFault}
 use Rattle.script_lines.specs.declared.fault.LineFault.TheVariants as fault
 use Rattle.script_lines.specs.Words.{words_between, IsDecimal}
-use Rattle.script_lines.specs.Lines.{BeginsWith, IsUserName, IsPlaceNumber, IsRequest, IsRestFault}
-use Rattle.help_lines.specs.declared.verb.HelpVerb.{HelpVerb}
-use Rattle.help_lines.specs.HelpLines.{IsOfHelp, Helps, HelpsNothing}
+use Rattle.script_lines.specs.Lines.{BeginsWith, IsUserName, IsTargetNumber, IsRequest, IsRestFault}
+use Rattle.shorthand_lines.specs.declared.verb.ShorthandVerb.{ShorthandVerb}
+use Rattle.shorthand_lines.specs.ShorthandLines.{IsShorthand, AsksByShorthand, ShorthandAsksNothing}
 use Rattle.live_lines.specs.declared.asked.WholeRequest.{WholeRequest}
 use Rattle.live_lines.specs.declared.asked.WholeRequest.TheVariants as whole
 use Rattle.live_lines.specs.declared.asked.LiveRequest.{LiveRequest}
@@ -47,13 +48,13 @@ abbrev pub HasDomainArguments : DomainVerb → List (List ℕ) → Type 0
 HasDomainArguments domain.Rest [] = ⊤
 HasDomainArguments domain.Restart [] = ⊤
 HasDomainArguments domain.Why [] = ⊤
-HasDomainArguments domain.Why (number ∷ []) = IsPlaceNumber number
+HasDomainArguments domain.Why (number ∷ []) = IsTargetNumber number
 HasDomainArguments verb arguments = ⊥
 
--- the words after a user's name ask this: what a plain line asks, by that line or one that helps, or something of the
+-- the words after a user's name ask this: what a plain line asks, by that line or a shorthand one, or something of the
 -- domain as a whole
 abbrev pub AsksLive : List (List ℕ) → LiveRequest → Type 0
-AsksLive rest (request.Script command) = IsRequest rest command ⊎ Helps rest command
+AsksLive rest (request.Script command) = IsRequest rest command ⊎ AsksByShorthand rest command
 AsksLive rest (request.Domain asked) =
     (verb : DomainVerb) × (arguments : List (List ℕ)) × IsOfDomain rest verb arguments
     × DomainAsks verb arguments asked
@@ -71,14 +72,14 @@ AsksNothingOfDomain rest =
     × (¬ HasDomainArguments verb arguments)
 
 -- what follows a user's name is wrong: there is no verb, neither a script's nor another; or what follows the verb is
--- wrong, as in a script, of the domain as a whole, or of one that helps
+-- wrong, as in a script, of the domain as a whole, or of a shorthand line
 abbrev pub IsLiveRestFault : List (List ℕ) → LineFault → Type 0
 IsLiveRestFault rest fault.User = ⊥
 IsLiveRestFault rest fault.Verb =
     IsRestFault rest fault.Verb
     × ((verb : DomainVerb) (arguments : List (List ℕ)) → ¬ IsOfDomain rest verb arguments)
-    × ((verb : HelpVerb) (arguments : List (List ℕ)) → ¬ IsOfHelp rest verb arguments)
-IsLiveRestFault rest fault.Args = IsRestFault rest fault.Args ⊎ (AsksNothingOfDomain rest ⊎ HelpsNothing rest)
+    × ((verb : ShorthandVerb) (arguments : List (List ℕ)) → ¬ IsShorthand rest verb arguments)
+IsLiveRestFault rest fault.Args = IsRestFault rest fault.Args ⊎ (AsksNothingOfDomain rest ⊎ ShorthandAsksNothing rest)
 IsLiveRestFault rest fault.Hex = IsRestFault rest fault.Hex
 
 -- why the words of a user's line ask nothing

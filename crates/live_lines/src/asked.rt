@@ -16,7 +16,7 @@ pub enum WholeRequest {
 /// What a user's line asks.
 #[derive(Drop)]
 pub enum LiveRequest {
-    /// What a line of a script asks: the same line, or the plain one in the place of a line that helps.
+    /// What a line of a script asks: the same line, or the plain one in the place of a shorthand line.
     Script(Command),
     /// Something of the user's domain as a whole.
     Domain(WholeRequest),

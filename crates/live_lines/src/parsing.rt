@@ -4,16 +4,18 @@ ghost use Rattle.script_lines.specs.declared.command.Command.{Command as SpecCom
 ghost use Rattle.script_lines.specs.declared.fault.LineFault.{LineFault as SpecLineFault};
 ghost use Rattle.script_lines.specs.declared.fault.LineFault.TheVariants.{Args};
 ghost use Rattle.script_lines.specs.declared.fault.Unread.TheVariants.{Faulty, NoMemory};
-ghost use Rattle.help_lines.specs.declared.fault.HelpFault.TheVariants as help_fault;
-ghost use Rattle.help_lines.specs.HelpLines.{HelpAsks};
+ghost use Rattle.shorthand_lines.specs.declared.fault.ShorthandFault.TheVariants as shorthand_fault;
+ghost use Rattle.shorthand_lines.specs.ShorthandLines.{ShorthandAsks};
 ghost use Rattle.live_lines.specs.LiveLines.{is_operators, DomainAsks, HasDomainArguments, AsksLive, IsLiveRestFault, IsUserLine, IsUserFault};
 ghost use Rattle.live_lines.specs.LiveLines.{OperatorAsks, IsOperatorArgumentFault, IsOperatorLine, IsOperatorFault, IsLiveLine, IsLiveFault};
 
 use crate::asked::{LiveLine, LiveRequest, OperatorRequest, WholeRequest};
 use crate::fault::LiveFault;
 use crate::verbs::{DomainVerb, OperatorVerb};
-use help_lines::{HelpFault, HelpVerb, parse_help};
-use script_lines::{Command, LineFault, LineWords, Unread, parse_place, parse_request, user_named};
+use script_lines::{
+    Command, LineFault, LineWords, Unread, parse_request, parse_target, user_named,
+};
+use shorthand_lines::{ShorthandFault, ShorthandVerb, parse_shorthand};
 use std::alloc::Global;
 
 /// The most bytes of a line, with its line feed: 1 MiB.
@@ -48,7 +50,7 @@ fn of_one(verb: DomainVerb, word: &[u8]) -> Result<WholeRequest, Unread>
     match verb {
         DomainVerb::Rest | DomainVerb::Restart => Err(Unread::Faulty(LineFault::Args)),
         DomainVerb::Why => {
-            let node = parse_place(word)?;
+            let node = parse_target(word)?;
             Ok(WholeRequest::Why { node: Some(node) })
         }
     }
@@ -70,32 +72,32 @@ fn parse_domain_arguments(
     }
 }
 
-// Why a line that helps isn't read.
-fn unread_of(fault: HelpFault) -> Unread
-    ensures wrong { (f : SpecLineFault) → result ≡ Faulty f → (f ≡ Args) × (fault ≢ help_fault.NoMemory) }
-    ensures memory { result ≡ NoMemory → fault ≡ help_fault.NoMemory }
+// Why a shorthand line isn't read.
+fn unread_of(fault: ShorthandFault) -> Unread
+    ensures wrong { (f : SpecLineFault) → result ≡ Faulty f → (f ≡ Args) × (fault ≢ shorthand_fault.NoMemory) }
+    ensures memory { result ≡ NoMemory → fault ≡ shorthand_fault.NoMemory }
 {
     match fault {
-        HelpFault::NoMemory => Unread::NoMemory,
-        HelpFault::TooFewWords
-        | HelpFault::TooManyWords
-        | HelpFault::FirstPort
-        | HelpFault::SecondPort
-        | HelpFault::Host
-        | HelpFault::Text => Unread::Faulty(LineFault::Args),
+        ShorthandFault::NoMemory => Unread::NoMemory,
+        ShorthandFault::TooFewWords
+        | ShorthandFault::TooManyWords
+        | ShorthandFault::FirstPort
+        | ShorthandFault::SecondPort
+        | ShorthandFault::Host
+        | ShorthandFault::Text => Unread::Faulty(LineFault::Args),
     }
 }
 
-// What a verb that helps asks with the words after it.
-fn parse_help_arguments(
+// What a shorthand verb asks with the words after it.
+fn parse_shorthand_arguments(
     alloc: Global,
-    verb: HelpVerb,
+    verb: ShorthandVerb,
     words: LineWords<'_>,
 ) -> Result<Command, Unread>
-    ensures asked { IfOk result (HelpAsks verb words.entry) }
-    ensures fault { IfErr result (λ u. (f : SpecLineFault) → u ≡ Faulty f → (f ≡ Args) × ((c : SpecCommand) → ¬ HelpAsks verb words.entry c)) }
+    ensures asked { IfOk result (ShorthandAsks verb words.entry) }
+    ensures fault { IfErr result (λ u. (f : SpecLineFault) → u ≡ Faulty f → (f ≡ Args) × ((c : SpecCommand) → ¬ ShorthandAsks verb words.entry c)) }
 {
-    match parse_help(alloc, verb, words) {
+    match parse_shorthand(alloc, verb, words) {
         Ok(command) => Ok(command),
         Err(fault) => Err(unread_of(fault)),
     }
@@ -113,10 +115,10 @@ fn parse_rest(alloc: Global, words: LineWords<'_>) -> Result<LiveRequest, Unread
     if let Some(verb) = DomainVerb::of(word) {
         return Ok(LiveRequest::Domain(parse_domain_arguments(verb, behind)?));
     }
-    let Some(verb) = HelpVerb::of(word) else {
+    let Some(verb) = ShorthandVerb::of(word) else {
         return Ok(LiveRequest::Script(parse_request(alloc, words)?));
     };
-    Ok(LiveRequest::Script(parse_help_arguments(alloc, verb, behind)?))
+    Ok(LiveRequest::Script(parse_shorthand_arguments(alloc, verb, behind)?))
 }
 
 // What a user's line asks.

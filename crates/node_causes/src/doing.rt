@@ -9,11 +9,11 @@ ghost use Rattle.node_causes.specs.Explained.{is_waited, link_text, resting_text
 
 use crate::cause::{Cause, InsideWait, LinkWaits};
 use answer_text::write_byte;
-use bootstrap::{CODE_START, Node, Task, number_of};
+use bootstrap::{CODE_START, Node, Task, link_number_of};
 use domain_core::NoMemory;
 use link_channels::LinkNumber;
 use node_memory::Fault;
-use record_following::NodePast;
+use record_following::NodeNotes;
 use std::alloc::Global;
 
 // Appends a number of bytes.
@@ -37,7 +37,7 @@ fn came_words(
 ) -> Result<String, NoMemory>
     ensures { IfOk result (λ text. string_bytes text ≡ came_text what.now link came whole) }
 {
-    let number = number_of(link);
+    let number = link_number_of(link);
     let mut text = format!(in alloc; "{what}link {number}: {came} of ")?;
     push_count(&mut text, whole)?;
     text.push_str(" have come")?;
@@ -77,7 +77,7 @@ fn task_words(alloc: Global, link: LinkNumber, task: Task) -> Result<String, NoM
 fn answering_words(alloc: Global, link: LinkNumber, left: u8) -> Result<String, NoMemory>
     ensures { IfOk result (λ text. string_bytes text ≡ answering_text link left) }
 {
-    let number = number_of(link);
+    let number = link_number_of(link);
     let mut text = format!(in alloc; " answers a peek by link {number}: ")?;
     push_count(&mut text, u32::from(left))?;
     text.push_str(" more are to be sent when the last one is acknowledged.")?;
@@ -184,7 +184,7 @@ pub(crate) fn doing_of(
     node: &Node,
     cause: &Cause,
     inside: &[InsideWait],
-    past: &NodePast,
+    notes: &NodeNotes,
 ) -> Result<String, NoMemory>
     requires inside { inside.now ≡ inside_waits node.now.memory }
     ensures { IfOk result (λ text. IsDoing node.now cause.now (string_bytes text)) }
@@ -193,11 +193,11 @@ pub(crate) fn doing_of(
         Cause::WantsControl => wanting_words(alloc, node.quiet()),
         Cause::Takes { link, task } => task_words(alloc, *link, *task),
         Cause::Answers { link, left } => answering_words(alloc, *link, *left),
-        Cause::Runs => running_words(alloc, past.steps),
+        Cause::Runs => running_words(alloc, notes.steps),
         Cause::Rests(waits) => resting_words(alloc, has_ended(waits, inside)),
         Cause::Halted(fault) => {
             let words = format!(in alloc; "{fault}")?;
-            let event = match past.fault {
+            let event = match notes.fault {
                 Some(fault) => Some(fault.event),
                 None => None,
             };

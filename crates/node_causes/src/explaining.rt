@@ -4,7 +4,7 @@ ghost use Rattle.node_causes.specs.Explained.{cut_text, IsExplained, IsLedText, 
 
 use crate::paragraphs::{Chosen, explain};
 use domain_core::NoMemory;
-use record_following::Follower;
+use record_following::ReplayedDomain;
 use std::alloc::Global;
 
 /// How many processes that wait at channels in a node's memory `explain_moment` lists at most.
@@ -32,33 +32,33 @@ fn led_words(alloc: Global, recorded: u64, is_cut: bool, causes: &str) -> Result
 }
 
 /// Says it of a domain that was led by its record, whose last line may be cut.
-pub fn explain_followed(
+pub fn explain_replayed(
     alloc: Global,
-    follower: &Follower,
+    replayed: &ReplayedDomain,
     is_cut: bool,
 ) -> Result<String, NoMemory>
-    ensures { IfOk result (λ told. IsLedText follower.now is_cut (string_bytes told)) }
+    ensures { IfOk result (λ told. IsLedText replayed.now is_cut (string_bytes told)) }
 {
     let all = Chosen {
         node: None,
         most_inside: usize::MAX,
     };
-    let causes = explain(alloc, follower, all)?;
-    led_words(alloc, follower.recorded_events(), is_cut, causes.as_str())
+    let causes = explain(alloc, replayed, all)?;
+    led_words(alloc, replayed.recorded_events(), is_cut, causes.as_str())
 }
 
 /// Says why each node, or one of them, does no more than it does, at the moment to which a domain was led. Of the processes
 /// that wait at channels in a node's memory the first hundred are listed, and the number of the others is given.
 pub fn explain_moment(
     alloc: Global,
-    follower: &Follower,
+    replayed: &ReplayedDomain,
     node: Option<u8>,
 ) -> Result<String, NoMemory>
-    ensures { IfOk result (λ told. IsExplained follower.now node (string_bytes told)) }
+    ensures { IfOk result (λ told. IsExplained replayed.now node (string_bytes told)) }
 {
     let chosen = Chosen {
         node,
         most_inside: MOST_INSIDE,
     };
-    explain(alloc, follower, chosen)
+    explain(alloc, replayed, chosen)
 }

@@ -9,7 +9,7 @@ use bootstrap::{Node, NodeState};
 use link_channels::{Link, LinkNumber, Process, WAITING};
 use node_memory::{Fault, Memory, NoMemory};
 use process_queue::NOT_PROCESS;
-use record_following::Follower;
+use record_following::ReplayedDomain;
 use std::alloc::Global;
 use t414_step::Cpu;
 
@@ -154,11 +154,11 @@ pub fn cause_in(node: &Node) -> Cause
 }
 
 /// Why a node does no more than it does, at the moment to which a domain was led. `None` where there is no such node.
-pub fn cause_of(follower: &Follower, node: u8) -> Option<Cause>
-    ensures cause { IfSome result (λ cause. IfSome (slice_get follower.now.machine.devices.nodes node) (λ n. IsCause n cause)) }
-    ensures there { (result ≡ None) ↔ (slice_get follower.now.machine.devices.nodes node ≡ None) }
+pub fn cause_of(replayed: &ReplayedDomain, node: u8) -> Option<Cause>
+    ensures cause { IfSome result (λ cause. IfSome (slice_get replayed.now.machine.devices.nodes node) (λ n. IsCause n cause)) }
+    ensures there { (result ≡ None) ↔ (slice_get replayed.now.machine.devices.nodes node ≡ None) }
 {
-    match follower.node(node) {
+    match replayed.node(node) {
         Some(node) => Some(cause_in(node)),
         None => None,
     }

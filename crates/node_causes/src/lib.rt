@@ -12,6 +12,6 @@ mod telling;
 mod words;
 
 pub use cause::{Cause, InputWait, InsideWait, JoinWait, LinkWaits, OutputWait, Rendezvous};
-pub use explaining::{explain_followed, explain_moment};
+pub use explaining::{explain_moment, explain_replayed};
 pub use finding::{cause_in, cause_of, inside_waits, join_wait};
 pub use passage::{Arrival, SentByte, Supply, arrival_at, sent_byte, supply_of};

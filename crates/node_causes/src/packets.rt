@@ -2,15 +2,15 @@
 
 use crate::cause::InputWait;
 use crate::passage::{Arrival, SentByte, Supply, arrival_at, end_at, sent_byte, supply_of};
-use crate::telling::Scene;
+use crate::telling::CauseWriter;
 use crate::words::{push_count, push_device, push_link, push_lost, push_move, push_number};
 use domain_core::{Device, Moved};
 use link_channels::LinkNumber;
 use os_link::Packet;
-use record_following::{OutPast, is_in_mask};
+use record_following::{OutputNotes, is_in_mask};
 use script_text::TextWriter;
 
-impl Scene<'_> {
+impl CauseWriter<'_> {
     /// Says where the byte is that a device sent last.
     pub(crate) fn write_sent(&mut self, device: Device, text: &mut TextWriter) {
         match sent_byte(&mut self.moment, device) {
@@ -27,7 +27,7 @@ impl Scene<'_> {
 
     // Says what became of a byte that left a port.
     fn write_left(&mut self, port: u8, drives: u32, text: &mut TextWriter) {
-        match self.past.port(port).byte {
+        match self.notes.port(port).byte {
             Some(event) => {
                 text.push("The byte");
                 push_lost(text, port, event);
@@ -70,7 +70,7 @@ impl Scene<'_> {
 
     // Says of a device that it has no byte, and nothing of it waits at its output.
     fn write_gone(&self, output: u8, device: Device, text: &mut TextWriter) {
-        match self.past.port(output).acknowledge {
+        match self.notes.port(output).acknowledge {
             Some(event) => {
                 push_device(text, "", device, " took the byte, but its acknowledge");
                 push_lost(text, output, event);
@@ -151,7 +151,7 @@ impl Scene<'_> {
     }
 
     // The output whose byte was the last to come to a link, and the device that sent it, if all its bytes came.
-    fn output_done(&mut self, node: u8, link: LinkNumber) -> Option<(Device, OutPast)> {
+    fn output_done(&mut self, node: u8, link: LinkNumber) -> Option<(Device, OutputNotes)> {
         let supply = supply_of(&mut self.moment, Device::Link { node, link });
         let Supply::Driven {
             source: Some(source),
@@ -164,7 +164,7 @@ impl Scene<'_> {
         let Device::Link { node, link } = source else {
             return None;
         };
-        let output = self.past.node(node).output(link)?;
+        let output = self.notes.node(node).output(link)?;
         if output.behind > 0 || end_at(&self.moment, source).output.awaits {
             return None;
         }
@@ -198,7 +198,7 @@ impl Scene<'_> {
 
     // Says so if an acknowledge of a link was lost at its port.
     fn write_own_loss(&self, port: u8, link: LinkNumber, text: &mut TextWriter) {
-        if let Some(event) = self.past.port(port).acknowledge {
+        if let Some(event) = self.notes.port(port).acknowledge {
             push_link(text, "An acknowledge of ", link, "");
             push_lost(text, port, event);
         }

@@ -6,9 +6,9 @@ ghost use Rattle.node_causes.specs.Explained.{alone_text, found_line, paragraph_
 
 use crate::doing::doing_of;
 use crate::finding::{cause_in, inside_waits};
-use crate::telling::Scene;
+use crate::telling::CauseWriter;
 use domain_core::NoMemory;
-use record_following::{Follower, Past};
+use record_following::{EventNotes, ReplayedDomain};
 use std::alloc::Global;
 
 /// How many packets among nodes are said to be many.
@@ -26,7 +26,7 @@ pub struct Chosen {
     pub most_inside: usize,
 }
 
-// Appends lines, each behind two blanks.
+// Appends lines, each after two blanks.
 fn push_found(text: &mut String, found: &str) -> Result<(), NoMemory>
     ensures { OnOk result (string_bytes text.new ≡ string_bytes text.old ++ flat_map found_line (lines found.now)) }
 {
@@ -48,20 +48,20 @@ fn paragraph(alloc: Global, number: u8, doing: &str, found: &str) -> Result<Stri
 // The paragraph of a node, or nothing if it isn't there.
 fn paragraph_of(
     alloc: Global,
-    scene: &mut Scene<'_>,
-    follower: &Follower,
+    writer: &mut CauseWriter<'_>,
+    replayed: &ReplayedDomain,
     number: u8,
 ) -> Result<String, NoMemory>
-    ensures { IfOk result (λ text. IsOfNode number (slice_get follower.now.machine.devices.nodes number) (string_bytes text)) }
+    ensures { IfOk result (λ text. IsOfNode number (slice_get replayed.now.machine.devices.nodes number) (string_bytes text)) }
 {
-    let Some(node) = follower.node(number) else {
+    let Some(node) = replayed.node(number) else {
         return Ok(String::new(alloc));
     };
     let cause = cause_in(node);
     let inside = inside_waits(alloc, node.memory())?;
-    let past = follower.past().node(number);
-    let doing = doing_of(alloc, node, &cause, inside.as_slice(), &past)?;
-    let found = scene.found_lines(number, &cause, inside.as_slice())?;
+    let notes = replayed.notes().node(number);
+    let doing = doing_of(alloc, node, &cause, inside.as_slice(), &notes)?;
+    let found = writer.found_lines(number, &cause, inside.as_slice())?;
     paragraph(alloc, number, doing.as_str(), found.as_str())
 }
 
@@ -79,29 +79,29 @@ fn alone_since(alloc: Global, since: u64, passed: u64) -> Result<String, NoMemor
 }
 
 // The same if they have passed many, else nothing.
-fn alone_words(alloc: Global, past: &Past) -> Result<String, NoMemory>
+fn alone_words(alloc: Global, notes: &EventNotes) -> Result<String, NoMemory>
     ensures { IfOk result (λ text. IsAloneText (string_bytes text)) }
 {
-    if past.exchanges < MANY_PACKETS {
+    if notes.exchanges < MANY_PACKETS {
         return Ok(String::new(alloc));
     }
-    alone_since(alloc, past.alone_since, past.exchanges)
+    alone_since(alloc, notes.alone_since, notes.exchanges)
 }
 
 // The paragraphs of all nodes, and whether these have long been alone with one another.
 fn all_paragraphs(
     alloc: Global,
-    scene: &mut Scene<'_>,
-    follower: &Follower,
+    writer: &mut CauseWriter<'_>,
+    replayed: &ReplayedDomain,
 ) -> Result<String, NoMemory>
-    ensures { IfOk result (λ text. IsExplained follower.now None (string_bytes text)) }
+    ensures { IfOk result (λ text. IsExplained replayed.now None (string_bytes text)) }
 {
     let mut text = String::new(alloc);
     for number in 0..MOST_NODES {
-        let paragraph = paragraph_of(alloc, scene, follower, number)?;
+        let paragraph = paragraph_of(alloc, writer, replayed, number)?;
         text.push_str(paragraph.as_str())?;
     }
-    let alone = alone_words(alloc, follower.past())?;
+    let alone = alone_words(alloc, replayed.notes())?;
     text.push_str(alone.as_str())?;
     Ok(text)
 }
@@ -109,14 +109,14 @@ fn all_paragraphs(
 /// Says why the chosen nodes do no more than they do, at the moment to which a domain was led.
 pub(crate) fn explain(
     alloc: Global,
-    follower: &Follower,
+    replayed: &ReplayedDomain,
     chosen: Chosen,
 ) -> Result<String, NoMemory>
-    ensures { IfOk result (λ text. IsExplained follower.now chosen.node (string_bytes text)) }
+    ensures { IfOk result (λ text. IsExplained replayed.now chosen.node (string_bytes text)) }
 {
-    let mut scene = Scene::of(alloc, follower, chosen.most_inside)?;
+    let mut writer = CauseWriter::of(alloc, replayed, chosen.most_inside)?;
     match chosen.node {
-        Some(number) => paragraph_of(alloc, &mut scene, follower, number),
-        None => all_paragraphs(alloc, &mut scene, follower),
+        Some(number) => paragraph_of(alloc, &mut writer, replayed, number),
+        None => all_paragraphs(alloc, &mut writer, replayed),
     }
 }

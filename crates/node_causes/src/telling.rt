@@ -4,10 +4,10 @@ use crate::cause::{Cause, InputWait, InsideWait, LinkWaits, OutputWait, Rendezvo
 use crate::doing::{has_ended, is_waited_for};
 use crate::finding::join_wait;
 use crate::words::{push_at, push_count, push_instruction, push_link, push_number};
-use bootstrap::{Node, number_of};
+use bootstrap::{Node, link_number_of};
 use domain_core::{Device, Moment, NoMemory};
 use link_channels::{LinkNumber, Process};
-use record_following::{FaultPast, Follower, Past, ZerosPast};
+use record_following::{EventNotes, FaultNotes, ReplayedDomain, ZerosNotes};
 use script_text::TextWriter;
 use std::alloc::Global;
 use t414_step::Cpu;
@@ -17,31 +17,31 @@ const MANY_STEPS: u64 = 100_000;
 
 /// A domain whose nodes are explained.
 #[derive(Drop)]
-pub struct Scene<'a> {
+pub struct CauseWriter<'a> {
     alloc: Global,
     pub(crate) moment: Moment,
-    pub(crate) past: &'a Past,
+    pub(crate) notes: &'a EventNotes,
     most_inside: usize,
 }
 
-impl<'a> Scene<'a> {
+impl<'a> CauseWriter<'a> {
     /// A domain at the moment to which it was led. Of the processes that wait at channels in a node's memory at most that many
     /// are listed.
     pub(crate) fn of(
         alloc: Global,
-        follower: &'a Follower,
+        replayed: &'a ReplayedDomain,
         most_inside: usize,
-    ) -> Result<Scene<'a>, NoMemory> {
-        Ok(Scene {
+    ) -> Result<CauseWriter<'a>, NoMemory> {
+        Ok(CauseWriter {
             alloc,
-            moment: follower.moment()?,
-            past: follower.past(),
+            moment: replayed.moment()?,
+            notes: replayed.notes(),
             most_inside,
         })
     }
 }
 
-impl Scene<'_> {
+impl CauseWriter<'_> {
     /// What is found of a node: why it does no more than it does, in lines.
     pub(crate) fn found_lines(
         &mut self,
@@ -113,7 +113,7 @@ impl Scene<'_> {
         if let Some(node) = self.moment.node(number) {
             self.write_next(number, node, text);
         }
-        if self.past.node(number).steps >= MANY_STEPS {
+        if self.notes.node(number).steps >= MANY_STEPS {
             text.push("It may run for ever.\n");
         }
     }
@@ -133,21 +133,21 @@ impl Scene<'_> {
 
     // It met a fault.
     fn write_halted(&mut self, number: u8, text: &mut TextWriter) {
-        let Some(past) = self.past.node(number).fault else {
+        let Some(notes) = self.notes.node(number).fault else {
             return;
         };
-        if let FaultPast {
+        if let FaultNotes {
             registers: Some(cpu),
             byte,
             ..
-        } = past
+        } = notes
         {
             text.push("It was at ");
             push_instruction(text, cpu, byte);
             push_registers(text, cpu);
             self.write_workspace(number, cpu.workspace, text);
         }
-        if let Some(zeros) = past.zeros {
+        if let Some(zeros) = notes.zeros {
             push_zeros(text, zeros);
         }
     }
@@ -195,7 +195,7 @@ impl Scene<'_> {
             if node.links().at(link).end.input.buffer.is_some() {
                 let behind =
                     " holds a byte that nobody will take: reset the node before you boot it again.\n";
-                push_number(text, "Link ", u64::from(number_of(link)), behind);
+                push_number(text, "Link ", u64::from(link_number_of(link)), behind);
             }
         }
     }
@@ -289,7 +289,7 @@ impl Scene<'_> {
 
     // Says so if a workspace is where the boot left it, right after the code.
     fn write_workspace(&self, number: u8, workspace: u32, text: &mut TextWriter) {
-        let Some(end) = self.past.node(number).code_end else {
+        let Some(end) = self.notes.node(number).code_end else {
             return;
         };
         let above = end.wrapping_add(3);
@@ -310,7 +310,7 @@ impl Scene<'_> {
         for link in LinkNumber::all() {
             let overruns = node.links().at(link).end.input.overruns;
             if overruns > 0 {
-                push_number(text, "Link ", u64::from(number_of(link)), " dropped ");
+                push_number(text, "Link ", u64::from(link_number_of(link)), " dropped ");
                 push_count(
                     text,
                     "",
@@ -395,7 +395,7 @@ fn write_rendezvous(wait: InsideWait, text: &mut TextWriter) {
 }
 
 // Writes how a node came to zeros through which it ran.
-fn push_zeros(text: &mut TextWriter, zeros: ZerosPast) {
+fn push_zeros(text: &mut TextWriter, zeros: ZerosNotes) {
     text.push("Before that it ran through zeros, each of which is `j 0`, from ");
     text.push_word(zeros.first);
     text.push(" on. It came there from ");

@@ -1,6 +1,6 @@
 //! Pieces of sentences.
 
-use bootstrap::number_of;
+use bootstrap::link_number_of;
 use domain_core::{Device, Moved};
 use link_channels::{LinkNumber, Process};
 use script_text::TextWriter;
@@ -25,7 +25,7 @@ pub fn push_count(text: &mut TextWriter, before: &str, count: u32, behind: &str)
 /// Writes `link 1` between two texts.
 pub fn push_link(text: &mut TextWriter, before: &str, link: LinkNumber, behind: &str) {
     text.push(before);
-    push_number(text, "link ", u64::from(number_of(link)), behind);
+    push_number(text, "link ", u64::from(link_number_of(link)), behind);
 }
 
 /// Writes `host 0` or `link 1 of node 2` between two texts.

@@ -59,7 +59,7 @@ length-copied (suc c) m from to =
     by_first (λ r. length r.1 ≡ length m) c m from to refl
     (λ x n h k. length-copied c n (from + 1) (to + 1) ∙ length-with_byte m n to x k)
 
--- from an address inside or just past memory, with more bytes to copy than there are from it on
+-- from an address inside or right after memory, with more bytes to copy than there are from it on
 stops_past : (count : ℕ) (m : List ℕ) (from to : ℕ)
     → from ≤ first_address + length m → first_address + length m < from + count
     → (copied count m from to).0 ≡ Err OutsideMemory

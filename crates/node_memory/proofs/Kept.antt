@@ -122,7 +122,7 @@ one_more kept size less =
 
 -- ---- two memories
 
--- memory of which the bytes behind a place are 0 is its bytes before it
+-- memory whose bytes after a place are 0 is its bytes before it
 cut : (kept : List ℕ) (size place : ℕ)
     → place ≤ length kept → length kept ≤ size → drop place kept ≡ replicate (length (drop place kept)) 0
     → memory_of kept size ≡ take place kept ++ replicate (size - place) 0
@@ -135,7 +135,7 @@ cut kept size place below within zeros =
     (replicate-append-replicate (length (drop place kept)) (size - length kept) 0
     ∙ ap (λ n. replicate n 0) (omega (arith, rest, below, within)))
 
--- memories of one size are the same if they begin alike and are 0 behind that
+-- memories of one size are the same if they begin alike and are 0 after that
 pub same_memory : (xs ys : List ℕ) (m n place : ℕ)
     → place ≤ length xs → place ≤ length ys → length xs ≤ m → length ys ≤ n → m ≡ n → take place xs ≡ take place ys
     → drop place xs ≡ replicate (length (drop place xs)) 0 → drop place ys ≡ replicate (length (drop place ys)) 0
@@ -159,7 +159,7 @@ same_start xs ys m n place left right same =
     sym (take-append-le place xs (replicate (m - length xs) 0) left) ∙ ap (take place) same
     ∙ take-append-le place ys (replicate (n - length ys) 0) right
 
--- what one of them keeps behind the other's last byte is 0
+-- what one of them keeps after the other's last byte is 0
 pub same_rest : (xs ys : List ℕ) (m n place : ℕ)
     → (place < length xs → place ≡ length ys) → length xs ≤ m → length ys ≤ n → memory_of xs m ≡ memory_of ys n
     → drop place xs ≡ replicate (length (drop place xs)) 0

@@ -1,11 +1,11 @@
 //! Instructions as bytes of code.
 
 use crate::left_out::left_out;
-use line_mistakes::{Wanted, WordForm, WordHint, WordRole};
-use line_words::{WordPlace, Words};
+use lab_words::{WordPlace, Words};
 use std::alloc::{AllocError, Global};
 use t414_assembly::{Mnemonic, mnemonic_named, nearest_instruction, operand_of, spell};
 use t414_decode::Function;
+use word_mistakes::{Wanted, WordForm, WordHint, WordRole};
 
 /// An instruction, as the assembler has it.
 pub const INSTRUCTION: Wanted = Wanted::Word(WordRole::Instruction, WordForm::Instruction);

@@ -3,10 +3,10 @@
 use crate::codes::{INSTRUCTION, read_instruction, reject_instruction};
 use crate::settings::{NodeSettings, read_link};
 use bootstrap::{LinkNumber, Packet, is_memory_size};
-use line_mistakes::{Wanted, WordForm, WordRole};
-use line_words::{WordFault, Words};
+use lab_words::{WordFault, Words};
 use script_text::decimal_number;
 use std::alloc::{AllocError, Global};
+use word_mistakes::{Wanted, WordForm, WordRole};
 
 /// What a line asks for.
 #[derive(Drop)]

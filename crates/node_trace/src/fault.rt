@@ -1,10 +1,10 @@
 //! Why the lines of a text aren't answered.
 
-use line_mistakes::WrongLine;
-use line_words::NumberedLineFault;
+use lab_words::NumberedLineFault;
 use std::alloc::AllocError;
-use step_meter::StepsEnd;
+use step_meter::OutOfSteps;
 use thiserror::Error;
+use word_mistakes::WrongLine;
 
 /// Why the lines of a text aren't answered.
 #[derive(Clone, Copy, Debug, Error)]
@@ -14,7 +14,7 @@ pub enum TraceFault {
     Line(WrongLine),
     /// As many Steps were done as may be, and a line asks for more.
     #[error("{0}")]
-    Steps(StepsEnd),
+    Steps(OutOfSteps),
     #[error("memory")]
     Memory(#[from(alloc)] AllocError),
 }
@@ -28,8 +28,8 @@ impl From<NumberedLineFault> for TraceFault {
     }
 }
 
-impl From<StepsEnd> for TraceFault {
-    fn from(end: StepsEnd) -> TraceFault {
+impl From<OutOfSteps> for TraceFault {
+    fn from(end: OutOfSteps) -> TraceFault {
         TraceFault::Steps(end)
     }
 }

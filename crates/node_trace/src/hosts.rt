@@ -1,7 +1,7 @@
 //! The hosts at the links of a node that is traced.
 
 use crate::packets::write_packet;
-use bootstrap::{LinkNumber, Node, Packet, number_of};
+use bootstrap::{LinkNumber, Node, Packet, link_number_of};
 use script_text::TextWriter;
 use std::alloc::{AllocError, Global};
 
@@ -95,7 +95,7 @@ impl LinkHost {
     // Writes the line of a packet.
     fn write_line(&self, packet: Packet, text: &mut TextWriter) {
         text.push("link ");
-        text.push_decimal(u64::from(number_of(self.link)));
+        text.push_decimal(u64::from(link_number_of(self.link)));
         text.push(" ");
         write_packet(text, Some(packet));
         text.push("\n");
@@ -109,7 +109,7 @@ impl LinkHost {
             return;
         }
         text.push("link ");
-        text.push_decimal(u64::from(number_of(self.link)));
+        text.push_decimal(u64::from(link_number_of(self.link)));
         text.push(" hasn't taken ");
         text.push_decimal(left);
         text.push(" of ");

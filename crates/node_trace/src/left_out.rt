@@ -1,7 +1,7 @@
 //! The operations of the handbook that this processor leaves out.
 
-use line_mistakes::OperationGroup;
 use script_text::value_named;
+use word_mistakes::OperationGroup;
 
 // The names of operations that are left out, and what they belong to.
 //

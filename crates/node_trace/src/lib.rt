@@ -34,4 +34,4 @@ pub use crate::program::{
 };
 pub use crate::tracing::{read_trace_line, trace};
 pub use bootstrap::{BootFault, LinkNumber, link_of};
-pub use line_words::NumberedLineFault;
+pub use lab_words::NumberedLineFault;

@@ -17,7 +17,7 @@ use bootstrap::{
 };
 use script_text::TextWriter;
 use std::alloc::Global;
-use step_meter::{StepMeter, StepsEnd};
+use step_meter::{OutOfSteps, StepMeter};
 use t414_assembly::{Instruction, write_instruction};
 use t414_decode::{Function, accumulate, decode};
 
@@ -156,7 +156,7 @@ fn run<M: StepMeter>(
     count: u64,
     meter: &mut M,
     text: &mut TextWriter,
-) -> Result<(), StepsEnd> {
+) -> Result<(), OutOfSteps> {
     let mut done: u64 = 0;
     let mut last = None;
     for _ in 0..count {

@@ -2,11 +2,11 @@
 
 use crate::codes::{read_instruction, reject_instruction};
 use bootstrap::{Cpu, Fault, LinkNumber, Links, Memory, Node, link_of};
-use line_mistakes::{Wanted, WordForm, WordHint, WordRole};
-use line_words::Words;
+use lab_words::Words;
 use link_channels::Link;
 use script_text::value_named;
 use std::alloc::{AllocError, Global};
+use word_mistakes::{Wanted, WordForm, WordHint, WordRole};
 
 /// One thing that is put into a node.
 #[derive(Clone, Copy)]

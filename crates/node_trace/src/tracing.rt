@@ -4,7 +4,7 @@ use crate::commands::{TraceCommand, read_command};
 use crate::fault::TraceFault;
 use crate::performing::{open_running, or_dash, perform};
 use bootstrap::Node;
-use line_words::{Answered, NumberedLineFault, Question, WordFault, read_questions};
+use lab_words::{Answered, NumberedLineFault, Question, WordFault, read_questions};
 use script_text::TextWriter;
 use std::alloc::Global;
 use step_meter::StepMeter;

@@ -6,7 +6,7 @@ use crate::fault::OccamFault;
 use crate::prelude::PRELUDE;
 use crate::uses::UseMistake;
 use node_memory::MEMORY_START;
-use occam_code::{Emission, LineMark, emit_program, processes_below, words_of};
+use occam_code::{Emission, LineMark, emit_program, processes_below, workspace_words};
 use occam_names::{CoreProgram, core_of};
 use occam_text::read_occam;
 use occam_tree::{SourceDeclaration, SourceProcess};
@@ -85,7 +85,7 @@ pub(crate) fn program_of(alloc: Global, core: &CoreProgram) -> Result<OccamProgr
     let emission = emit_program(alloc, &core.process, variables, core.tables.as_slice())?;
     let below = processes_below(&core.process).saturating_mul(WORDS_EACH);
     let words = words_after(
-        words_of(&core.process, variables),
+        workspace_words(&core.process, variables),
         below.saturating_add(WORDS_BELOW),
         core.tables.len(),
     );

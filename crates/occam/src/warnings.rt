@@ -238,7 +238,7 @@ fn ends_of_all(ends: &[ChannelEnds]) -> ChannelEnds {
     all
 }
 
-// The only end of an array of channels that is used, or else that of the first element of which only one is.
+// The only end of an array of channels that is used, or else that of the first element that has only one used.
 fn one_end_of_array(ends: &[ChannelEnds]) -> Option<OneEnd> {
     let all = one_end(ends_of_all(ends), EndedChannel::All);
     if all.is_some() {
@@ -273,7 +273,7 @@ impl<'a> OccamWarnings<'a> {
         }
     }
 
-    // Notes the channels of which one end alone is used.
+    // Notes the channels that have only one end used.
     fn add_ends(
         &mut self,
         alloc: Global,

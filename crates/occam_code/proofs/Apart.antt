@@ -99,7 +99,7 @@ parts_kept (Parallel' _ p _ q) =
     more_kept (is_parallel q) (kept_all (components q)) (process_temporaries q) (process_temporaries p) (parts_kept q)
 parts_kept _ = omega arith
 
--- components of which the first has these words take as much as this
+-- components whose first has these words take as much as this
 record FitsAll (words : FrameWords) (ps : List CoreProcess) : Type 0 where
   order : words.base ≤ words.temporary
   small : words.temporary + kept_all ps + 4 * below_all ps < 2 ^ 28 + 6

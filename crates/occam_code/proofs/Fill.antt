@@ -82,7 +82,7 @@ fill_more old c1 c2 start next words p q others box box' e1 fills below =
     fill_step old c1 c2 start (asm.ldc 0) s (asm.ldlp (0 ⊖ below)) asm.startp blanks (filled k (k + 0)) code
     (parts_code k next' words' q others) e1 inner
 
--- the same, by the values behind references
+-- the same, by the values that the references have
 pub fill_parts : (old c1 c2 : List Statement) (start next below : ℕ) (words others : FrameWords)
     (p q q' last last' whole : CoreProcess) (box box' : Box (Unit {0}) Global)
     → whole ≡ Parallel' box q' box' last' → q ≡ q' → last ≡ last' → others ≡ after_component words p → below ≡
@@ -173,7 +173,7 @@ pub is_alone : (p : CoreProcess) → is_parallel p ≡ false → components p �
 is_alone (Parallel' box p box' q) alone = absurd (grind arith)
 is_alone _ alone = refl
 
--- the last component's code, by the values behind references
+-- the last component's code, by the values that the references have
 last_code : (c1 c2 : List Statement) (start next below : ℕ) (words others : FrameWords) (p q : CoreProcess)
     → others ≡ after_component words p → below ≡ words_below p
     → c2 ≡ slice_set c1 (start + 3) (asm.ldc_distance (length c1) (start + 3 + 3))
@@ -186,7 +186,8 @@ last_code c1 c2 start next below words others p q words_are below_is e2 =
     ∙ ap (λ w. slice_set c1 (start + 3) s ++ component_code (next ⊕ words_below p) (process_code (length c1) w q))
     words_are
 
--- the last two components, by the values behind references: their code, its length, and the places of their lines
+-- the last two components, by the values that the references have: their code, its length, and the
+-- places of their lines
 pub last_parts : (old c1 c2 : List Statement) (start next below : ℕ) (words others : FrameWords) (p q : CoreProcess)
     → is_parallel q ≡ false → others ≡ after_component words p → below ≡ words_below p
     → c1 ≡ slice_set old start (asm.ldc_distance (length old) (start + 3))
@@ -454,7 +455,7 @@ fill_body old c0 c1 c2 c3 c4 disables size selected n words jump guard p _ box b
     l3 e4 =
     absurd (grind arith)
 
--- the same, by the values behind references
+-- the same, by the values that the references have
 pub fill_bodies : (old c0 c1 c2 c3 c4 : List Statement) (disables size selected n : ℕ) (words : FrameWords)
     (jump : Statement) (guard : CoreGuard) (p p' q q' whole : CoreProcess) (box box' : Box (Unit {0}) Global)
     → whole ≡ Choose' guard box p' box' q' → p ≡ p' → q ≡ q'
@@ -491,7 +492,7 @@ fill_last_body old c0 c1 disables size selected words guard p _ box box' last si
     (asm.ldc_distance (length old) selected) (disable_operation guard) first (ap (λ i. disables + i) (sizes kept)) e0
     e1'
 
--- the same, by the values behind references
+-- the same, by the values that the references have
 pub fill_last_of : (old c0 c1 : List Statement) (disables size selected : ℕ) (words : FrameWords)
     (guard : CoreGuard) (p p' q q' whole : CoreProcess) (box box' : Box (Unit {0}) Global)
     → whole ≡ Choose' guard box p' box' q' → p ≡ p' → q ≡ q'

@@ -108,7 +108,7 @@ module _ (ground : Ground) where
       listens_on p p (waits g program p)
       (input_stage false (bytes_in kind) c pointer k m now breaks rest least below lies is)
 
-  -- the code of an input behind the clearing of its variable
+  -- the code of an input after the clearing of its variable
   input_tail : (n c v spare : ℕ) (kind : MessageKind) (k a b d : ℕ) (m before : List ℕ) (now : Situation) (breaks : ℕ)
       → 4 ≤ c → c < 8
       → Lies g program k

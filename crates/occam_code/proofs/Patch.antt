@@ -19,11 +19,11 @@ written whole pre post blank blank' n same place =
     ap (λ l. slice_set l n blank') same ∙ ap (λ k. slice_set (pre ++ blank ∷ post) k blank') place
     ∙ set-append_seam pre blank post blank'
 
--- the length of a code behind another
+-- the length of a code after another
 pub longer : (whole base more : List Statement) → whole ≡ base ++ more → length whole ≡ length base + length more
 longer whole base more same = ap length same ∙ length-append base more
 
--- one more statement and a code that begins behind it
+-- one more statement and a code that begins after it
 put_then : (c1 c2 c3 : List Statement) (blank : Statement) (next : ℕ → List Statement) (k : ℕ)
     → c2 ≡ c1 ++ blank ∷ [] → length c1 + 1 ≡ k → c3 ≡ c2 ++ next (length c2) → c3 ≡ c1 ++ blank ∷ next k
 put_then c1 c2 c3 blank next k e2 long e3 =

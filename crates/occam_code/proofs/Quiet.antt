@@ -1,4 +1,5 @@
--- The statements of an expression's code are done by their rows alone, whoever else is there: for the law of processes.
+-- The statements of an expression's code are done by their rows alone, no matter who else is there:
+-- for the law of processes.
 use Rattle.std.proofs.Common.{◌≡◌, ℕ, ◌+◌, List, [], ◌∷◌, ◌++◌, length, refl, Bool, true, false}
 use Rattle.t414_decode.specs.Codes.{operation_of}
 use Rattle.t414_assembly.specs.declared.statement.Statement.{Statement}

@@ -16,7 +16,7 @@ use Rattle.occam_core.specs.declared.process.CoreProcess.TheVariants.{Skip, Stop
 use Rattle.occam_code.specs.declared.emission.LineMark.{LineMark}
 use Rattle.occam_code.specs.declared.frame.FrameWords.{FrameWords}
 use Rattle.occam_code.specs.Instructions as asm
-use Rattle.occam_code.specs.Words.{as_word, is_leaf, is_parallel, processes_below, words_of}
+use Rattle.occam_code.specs.Words.{as_word, is_leaf, is_parallel, processes_below, workspace_words}
 use Rattle.occam_code.specs.Expressions.{after_one, address_code, then_code, expression_code}
 use Rattle.occam_code.specs.Guards.{keep_channel, after_channel, channel_code, guards_of, bodies_place, choose_code}
 use Rattle.occam_code.specs.Components.{components, inside, after_component, component_code, component_codes, parallel_code}
@@ -249,7 +249,7 @@ tables_code processes (word ∷ words) =
 -- what comes before the process of a program, which has this number of variables and of words of tables
 abbrev pub program_start : ℕ → ℕ → CoreProcess → List Statement
 program_start variables table_words p =
-    start_code table_words (as_word (processes_below p)) (as_word (words_of p variables))
+    start_code table_words (as_word (processes_below p)) (as_word (workspace_words p variables))
 
 -- the words of a program's own process
 abbrev pub program_words : ℕ → FrameWords

@@ -7,7 +7,7 @@ use Rattle.node_memory.specs.Words.{◌⊕◌, ◌⊗◌}
 use Rattle.occam_core.specs.declared.process.CoreProcess.{CoreProcess}
 use Rattle.occam_core.specs.declared.process.CoreProcess.TheVariants.{Line', Sequence', Parallel', Choose', If', While', Repeat'}
 use Rattle.occam_code.specs.declared.frame.FrameWords.{FrameWords}
-use Rattle.occam_code.specs.Words.{as_word, is_parallel, process_temporaries, processes_below, words_of}
+use Rattle.occam_code.specs.Words.{as_word, is_parallel, process_temporaries, processes_below, workspace_words}
 use Rattle.occam_code.specs.Components.{components, inside, after_component}
 use Rattle.occam_code.specs.Code.{workspace_move, program_words}
 
@@ -97,7 +97,7 @@ pub record IsLaidOut (variables : ℕ) (p : CoreProcess) : Type 0 where
   -- what is kept comes after the variables, and none after the room
   pub after : (one : PlacedProcess) (n : ℕ) → Within (placed (program_words variables) p) one
       → Keeps (processes_below p) one n
-      → (4 * processes_below p + 4 + variables ≤ n) × (n < 4 * processes_below p + 3 + words_of p variables)
+      → (4 * processes_below p + 4 + variables ≤ n) × (n < 4 * processes_below p + 3 + workspace_words p variables)
   -- the program's start moves its workspace to word 0 of the frame, and with tables leaves as much space before them
   pub moved : workspace_move 0 (as_word (processes_below p)) ≡ 4 * processes_below p + 3
   pub space : (1 ⊕ as_word (processes_below p)) ⊗ 16 ≡ 4 * (4 * processes_below p + 4)
@@ -105,4 +105,5 @@ pub record IsLaidOut (variables : ℕ) (p : CoreProcess) : Type 0 where
 -- each program is laid out so, if all its words have numbers
 abbrev pub ProcessesAreApart : Type 0
 ProcessesAreApart =
-    (variables : ℕ) (p : CoreProcess) → words_of p variables + 4 * processes_below p < 2 ^ 28 → IsLaidOut variables p
+    (variables : ℕ) (p : CoreProcess) → workspace_words p variables + 4 * processes_below p < 2 ^ 28
+    → IsLaidOut variables p

@@ -95,5 +95,5 @@ processes_below (Repeat' v base count p a) = processes_below a
 processes_below _ = 0
 
 -- word 0, the variables and the values that are kept
-abbrev pub words_of : CoreProcess → ℕ → ℕ
-words_of p variables = process_temporaries p + variables + 1
+abbrev pub workspace_words : CoreProcess → ℕ → ℕ
+workspace_words p variables = process_temporaries p + variables + 1

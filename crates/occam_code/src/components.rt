@@ -54,7 +54,7 @@ pub(crate) fn after_component(words: FrameWords, p: &CoreProcess) -> FrameWords
     }
 }
 
-// The start of a component whose workspace is this number of words below, with 0 in place of how far it is to its code.
+// The start of a component whose workspace is this number of words below, with 0 instead of how far it is to its code.
 fn emit_start(code: &mut Vec<Statement>, below: u32) -> Result<(), AllocError>
     ensures { OnOk result (code.new.items ≡ code.old.items ++ asm.ldc 0 ∷ asm.ldlp (0 ⊖ below) ∷ asm.startp ∷ []) }
 {
@@ -63,7 +63,7 @@ fn emit_start(code: &mut Vec<Statement>, below: u32) -> Result<(), AllocError>
     operate(code, START_PROCESS)
 }
 
-// The starts of the components of a PAR, the first of which is this number of words below.
+// The starts of the components of a PAR. The first is this number of words below.
 pub(crate) fn emit_starts(
     code: &mut Vec<Statement>,
     below: u32,
@@ -81,7 +81,7 @@ pub(crate) fn emit_starts(
     }
 }
 
-// The same of the PAR of a component and others, the first of which has its four words below those of the process that
+// The same of the PAR of a component and others. The first has its four words below those of the process that
 // starts it.
 pub(crate) fn emit_starts_of(
     code: &mut Vec<Statement>,

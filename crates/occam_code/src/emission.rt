@@ -7,7 +7,7 @@ ghost use Rattle.occam_core.specs.Processes.{IsSequential};
 use crate::frame::FrameWords;
 use crate::instructions::*;
 use crate::processes::emit_process;
-use crate::words::{processes_below, words_of};
+use crate::words::{processes_below, workspace_words};
 use occam_core::CoreProcess;
 use std::alloc::{AllocError, Global};
 use t414_assembly::{Operand, Statement};
@@ -71,7 +71,7 @@ fn emit_whole(
         &mut statements,
         tables.len(),
         processes,
-        words_of(p, variables),
+        workspace_words(p, variables),
     )?;
     emit_process(&mut statements, &mut marks, program_words(variables), p)?;
     operate(&mut statements, STOP_PROCESS)?;

@@ -217,7 +217,7 @@ pub(crate) fn emit_enables(
     }
 }
 
-// They are disabled, with 0 in place of how far it is to the process of each.
+// They are disabled, with 0 instead of how far it is to the process of each.
 pub(crate) fn emit_disables(
     code: &mut Vec<Statement>,
     words: FrameWords,

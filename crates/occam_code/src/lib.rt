@@ -21,4 +21,4 @@ pub use frame::FrameWords;
 pub use layout_laws::processes_are_apart;
 pub use process_laws::processes_behave;
 pub use processes::emit_process;
-pub use words::{processes_below, temporaries_of, words_of};
+pub use words::{processes_below, temporaries_of, workspace_words};

@@ -150,7 +150,7 @@ fn emit_parallel(
     put(code, Function::AdjustWorkspace, 0u32.wrapping_sub(next))
 }
 
-// The components of a PAR, of which the first has these words. Their starts begin at the place `starts`.
+// The components of a PAR. The first has these words. Their starts begin at the place `starts`.
 #[cycle(process)]
 fn emit_components(
     code: &mut Vec<Statement>,

@@ -1,13 +1,13 @@
 //! How many words of the frame a program uses, and how many processes it starts.
 ghost use Rattle.std.specs.Prelude.{◌≡◌, max, if◌then◌else◌};
-ghost use Rattle.occam_code.specs.Words.{as_word, is_leaf as leaf, temporaries_of as temporaries, with_channel as values_with_channel, with_value as values_with_value, with_guard as values_with_guard, guards_temporaries as values_of_guards, process_temporaries as process_values, processes_below as below, is_parallel as is_par, words_of as words};
+ghost use Rattle.occam_code.specs.Words.{as_word, is_leaf as leaf, temporaries_of as temporaries, with_channel as values_with_channel, with_value as values_with_value, with_guard as values_with_guard, guards_temporaries as values_of_guards, process_temporaries as process_values, processes_below as below, is_parallel as is_par, workspace_words as words};
 
 use crate::expressions::is_leaf;
 use occam_core::{CoreChannel, CoreGuard, CoreProcess, Expression};
 
 /// How many words of the workspace from word 0 up a program with this number of variables uses: word 0, the variables, and
 /// what the values that are kept for later need at most. It is 2^32 - 1 if there are more.
-pub fn words_of(p: &CoreProcess, variables: u32) -> u32
+pub fn workspace_words(p: &CoreProcess, variables: u32) -> u32
     ensures words { result ≡ as_word (words p.now variables) }
 {
     process_temporaries(p)

@@ -39,7 +39,7 @@ begins_error t rest Partial run = nothing t rest run
 begins_cut : Begins IsCutAt
 begins_cut t rest e run = (nothing t rest run.0, refl)
 
--- before one message, or behind it
+-- before one message, or after it
 before_one : (x : Exchange) (t rest : List Exchange) → t ++ rest ≡ x ∷ [] → (t ≡ []) ⊎ (t ≡ x ∷ [])
 before_one x [] rest is = inl refl
 before_one x (other ∷ t) rest is =

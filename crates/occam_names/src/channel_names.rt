@@ -105,7 +105,7 @@ impl<'a, 'b> Namer<'a, 'b> {
         }
     }
 
-    // Whether a declared array has so many channels of such messages. If not, that is noted.
+    // Whether a declared array has that many channels of such messages. If not, that is noted.
     fn is_channel_array_of(
         &mut self,
         index: usize,

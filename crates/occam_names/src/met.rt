@@ -1,9 +1,9 @@
 //! What is met in a text where something else is expected.
 
 use crate::meaning::{MessageType, TypeMeaning, carried_type};
-use line_mistakes::ShownWord;
 use occam_tree::DataType;
 use std::fmt;
+use word_mistakes::ShownWord;
 
 /// What a name means.
 #[derive(Clone, Copy)]

@@ -186,7 +186,7 @@ impl<'a, 'b> Namer<'a, 'b> {
         depth: u8,
     ) -> CoreProcess {
         let base = self.value_of_type(&replicator.base, DataType::Int);
-        let count = self.count_of(&replicator.count);
+        let count = self.replicator_count(&replicator.count);
         let index = self.new_index(replicator.index);
         let names = self.scope.len();
         self.know_index(replicator.index, index);
@@ -216,7 +216,7 @@ impl<'a, 'b> Namer<'a, 'b> {
     }
 
     // The count of a replicator.
-    fn count_of(&mut self, count: &SourceExpression<'a>) -> Option<Expression> {
+    fn replicator_count(&mut self, count: &SourceExpression<'a>) -> Option<Expression> {
         let count = self.value_of_type(count, DataType::Int)?;
         let number = number_in(&count.expression).unwrap_or(0).cast_signed();
         if number >= 0 || self.notes.around.is_in_place() {

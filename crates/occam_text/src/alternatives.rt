@@ -11,8 +11,8 @@ use crate::processes::STEP;
 use crate::statements::is_declaration;
 use crate::tree_reader::TreeReader;
 use crate::words::TokenKind;
-use line_mistakes::ShownWord;
 use occam_tree::{SourceAlternative, SourceExpression, SourceGuard};
+use word_mistakes::ShownWord;
 
 impl<'a, 'b> TreeReader<'a, 'b> {
     /// The alternatives below this `ALT`, which begin with as many blanks.

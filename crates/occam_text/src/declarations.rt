@@ -9,12 +9,12 @@ use crate::mistakes::{ExpectedPart, MetPart, ReadStop};
 use crate::omissions::OmittedPart;
 use crate::tree_reader::TreeReader;
 use crate::words::TokenKind;
-use line_mistakes::ShownWord;
 use occam_tree::{
     DataType, DyadicSign, SourceDeclaration, SourceElement, SourceExpression, SourceMessage,
     SourceName, SourceType, TextPlace,
 };
 use std::alloc::Global;
+use word_mistakes::ShownWord;
 
 // Where the size of an array is missing, and what is said of it.
 #[derive(Clone, Copy)]

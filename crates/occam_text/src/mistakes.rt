@@ -2,10 +2,10 @@
 
 use crate::hints::GrammarHint;
 use crate::omissions::OmittedPart;
-use line_mistakes::ShownWord;
 use occam_tree::TextPlace;
 use std::alloc::{AllocError, AllocFailed};
 use std::fmt;
+use word_mistakes::ShownWord;
 
 /// What is expected at a place of a text.
 #[derive(Clone, Copy)]

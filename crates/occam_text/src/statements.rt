@@ -11,10 +11,10 @@ use crate::omissions::OmittedPart;
 use crate::processes::boxed_process;
 use crate::tree_reader::TreeReader;
 use crate::words::TokenKind;
-use line_mistakes::ShownWord;
 use occam_tree::{
     DyadicSign, Replicator, SourceDeclaration, SourceElement, SourceExpression, SourceProcess,
 };
+use word_mistakes::ShownWord;
 
 /// Whether a declaration begins with this word.
 pub fn is_declaration(kind: TokenKind) -> bool {

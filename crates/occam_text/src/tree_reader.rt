@@ -10,10 +10,10 @@ use crate::lines::TextWords;
 use crate::mistakes::{ExpectedPart, GrammarMistake, MetPart, OccamTextFault, ReadStop};
 use crate::omissions::OmittedPart;
 use crate::words::{OccamToken, TokenKind, left_out_at, token_at};
-use line_mistakes::ShownWord;
 use occam_tree::{DyadicSign, SourceName, SourceProcess, TextPlace};
 use script_text::NumberedLine;
 use std::alloc::Global;
+use word_mistakes::ShownWord;
 
 /// How deep constructs are in one another at most, and parentheses.
 pub const MOST_NESTING: u8 = 64;

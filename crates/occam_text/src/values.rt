@@ -8,8 +8,8 @@ use crate::processes::boxed_process;
 use crate::strings::string_bytes;
 use crate::tree_reader::{MOST_NESTING, TreeReader};
 use crate::words::TokenKind;
-use line_mistakes::ShownWord;
 use occam_tree::{SourceElement, SourceExpression, SourceProcess, SourceTable, SourceValue};
+use word_mistakes::ShownWord;
 
 impl<'a, 'b> TreeReader<'a, 'b> {
     /// A variable, an array or a channel, or an element of an array.

@@ -9,9 +9,9 @@ use crate::mistakes::{ExpectedPart, GrammarMistake, MetPart};
 use crate::omissions::{OmittedPart, omission_named};
 use crate::signs::{pair_named, single_named};
 use crate::strings::{quoted_character, string_character};
-use line_mistakes::{ShownWord, column_at};
 use occam_tree::{DataType, DyadicSign, MonadicSign, TextPlace};
 use script_text::{NumberedLine, decimal_number, hexadecimal_word};
+use word_mistakes::{ShownWord, column_at};
 
 /// What a word of a text is.
 #[derive(Clone, Copy)]

@@ -82,7 +82,7 @@ fn mask(k: usize, first: u64, end: u64) -> u64
     below_end.saturating_sub(below_first)
 }
 
-// So many bits from the lowest on.
+// That many bits from the lowest on.
 fn ones(count: u64) -> u64
     requires { count ≤ 64 }
     ensures { result ≡ 2 ^ count - 1 }

@@ -31,7 +31,7 @@ pub(crate) fn loop_values(base: &Expression, count: &Expression) -> Option<Subsc
     }
 }
 
-// What a variable may be: it may be the index of loops, of which the last is the innermost.
+// What a variable may be: it may be the index of loops. The last is the innermost.
 fn index_values(indices: &[LoopIndex], variable: u32) -> Option<SubscriptValues>
     ensures { result ≡ index_values indices.now variable }
 {

@@ -19,7 +19,7 @@ use Rattle.plan_rules.specs.declared.fault.PlanFault.TheVariants.{Port, PortTwic
 use Rattle.plan_rules.specs.declared.fault.PlanFault.TheVariants.{Limit, NoMemory, RangeCount, UserCount}
 use Rattle.std.proofs.lemmas.List.{take_more, take_all}
 
--- the data of a list with x behind it is the data of the list with that of x behind it
+-- the data of a list with x after it is the data of the list with that of x after it
 pub items_of-push : {X : Type 0} (make : X → Data) (xs : List X) (x : X)
     → items_of (map make (xs ++ x ∷ [])) ≡ push_item (items_of (map make xs)) (make x)
 items_of-push make [] x = refl
@@ -65,7 +65,7 @@ array_is (datetime t) items same = cc
 array_is (array ds) items same = cc
 array_is (table ms) items same = cc
 
--- values of which as many as there are spell a list are the array of that list
+-- values that all together spell a list are the array of that list
 pub spells_all : {X : Type 0} (make : X → Data) (value : Data) (vs : List Value) (i : ℕ) (xs : List X)
     → value ≡ array (items_view vs) → length vs ≤ i → items_view (take i vs) ≡ items_of (map make xs)
     → value ≡ list make xs
@@ -152,7 +152,7 @@ no_field : (ms : Members) → keys_of ms ≡ [] → ms ≡ no_members
 no_field no_members same = refl
 no_field (member k value rest) same = cc
 
--- a table with just the keys of a node has just these two values
+-- a table with exactly the keys of a node has just these two values
 pub node_fields : (ms : Members) (links memory : Data)
     → keys_of ms ≡ codes "links" ∷ codes "memory" ∷ []
     → get_member (codes "links") ms ≡ Some links
@@ -166,7 +166,7 @@ node_fields ms links memory keys h1 h2 =
     let g2 : Some b.0 ≡ Some memory = rw (a.2, b.2) at h2 in
     rw (a.2, b.2, no_field b.1 b.3) (cc)
 
--- a table with just the keys of a user has just these two values
+-- a table with exactly the keys of a user has just these two values
 pub user_fields : (ms : Members) (host name : Data)
     → keys_of ms ≡ codes "host" ∷ codes "name" ∷ []
     → get_member (codes "host") ms ≡ Some host
@@ -180,7 +180,7 @@ user_fields ms host name keys h1 h2 =
     let g2 : Some b.0 ≡ Some name = rw (a.2, b.2) at h2 in
     rw (a.2, b.2, no_field b.1 b.3) (cc)
 
--- a table with just the keys of a domain in version 1 has just these six values
+-- a table with exactly the keys of a domain in version 1 has just these six values
 pub one_range_fields : (ms : Members) (first host last limit name node : Data)
     → keys_of ms ≡ codes "first" ∷ codes "host" ∷ codes "last" ∷ codes "limit" ∷ codes "name" ∷ codes "node" ∷ []
     → get_member (codes "first") ms ≡ Some first
@@ -209,7 +209,7 @@ one_range_fields ms first host last limit name node keys h1 h2 h3 h4 h5 h6 =
     let g6 : Some f.0 ≡ Some node = rw (a.2, b.2, c.2, d.2, e.2, f.2) at h6 in
     rw (a.2, b.2, c.2, d.2, e.2, f.2, no_field f.1 f.3) (cc)
 
--- a table with just the keys of a domain in version 2 has just these five values
+-- a table with exactly the keys of a domain in version 2 has just these five values
 pub one_user_fields : (ms : Members) (host limit name node range : Data)
     → keys_of ms ≡ codes "host" ∷ codes "limit" ∷ codes "name" ∷ codes "node" ∷ codes "range" ∷ []
     → get_member (codes "host") ms ≡ Some host
@@ -234,7 +234,7 @@ one_user_fields ms host limit name node range keys h1 h2 h3 h4 h5 =
     let g5 : Some e.0 ≡ Some range = rw (a.2, b.2, c.2, d.2, e.2) at h5 in
     rw (a.2, b.2, c.2, d.2, e.2, no_field e.1 e.3) (cc)
 
--- a table with just the keys of a domain in version 3 has just these four values
+-- a table with exactly the keys of a domain in version 3 has just these four values
 pub users_fields : (ms : Members) (limit node range user : Data)
     → keys_of ms ≡ codes "limit" ∷ codes "node" ∷ codes "range" ∷ codes "user" ∷ []
     → get_member (codes "limit") ms ≡ Some limit
@@ -256,7 +256,7 @@ users_fields ms limit node range user keys h1 h2 h3 h4 =
     let g4 : Some d.0 ≡ Some user = rw (a.2, b.2, c.2, d.2) at h4 in
     rw (a.2, b.2, c.2, d.2, no_field d.1 d.3) (cc)
 
--- a table with just the keys of a document has just these two values
+-- a table with exactly the keys of a document has just these two values
 pub document_fields : (ms : Members) (domain version : Data)
     → keys_of ms ≡ codes "domain" ∷ codes "version" ∷ []
     → get_member (codes "domain") ms ≡ Some domain

@@ -9,7 +9,7 @@ use Rattle.plan_rules.specs.declared.fault.PlanFault.TheVariants.{SharedPort, No
 use Rattle.plan_rules.specs.declared.fault.PlanFault.TheVariants.{HostCount, UnwiredNode, Limit}
 use Rattle.plan_rules.specs.declared.fault.PlanFault.TheVariants.{NoMemory, RangeCount, UserCount}
 
--- a test of one element is a test of the list of just this element
+-- a test of one element is a test of the list of this element alone
 pub of_one : {B X : Type 0} (P : X → Type 0) (x : X) → B ↔ P x → B ↔ All P (x ∷ [])
 of_one P x test = (λ b. All-cons P x [] (test.0 b) (All-nil P), λ all. test.1 (All-head P x [] all))
 

@@ -194,13 +194,13 @@ pub pairs_of_one : {D X : Type 0} (R : X → X → Type 0) (make : D → List X)
     → AllPairs R (make d)
 pairs_of_one R make d given = All-head (λ d. AllPairs R (make d)) d [] (lists_each R make (d ∷ []) given)
 
--- one more item, behind the values of those before it
+-- one more item, after the values of those before it
 pub mapped_more : {X Y : Type 0} (f : X → Y) (xs : List X) (i : ℕ) (x : X) (ys : List Y) → i < length xs
     → ys ≡ map f (take i xs)
     → ys ++ f (get_or xs i x) ∷ [] ≡ map f (take (i + 1) xs)
 mapped_more f xs i x ys within so_far = rw (map_more f xs i x within, so_far) refl
 
--- the values of one more item, behind other values and those of the items before it
+-- the values of one more item, after other values and those of the items before it
 pub added_more : {X A : Type 0} (make : X → List A) (front : List A) (xs : List X) (i : ℕ) (x : X) (ys : List A)
     → i < length xs → ys ≡ front ++ flat_map make (take i xs)
     → ys ++ make (get_or xs i x) ≡ front ++ flat_map make (take (i + 1) xs)
@@ -212,14 +212,14 @@ pub at_end : {X Y : Type 0} (shown : List X → Y) (xs : List X) (i : ℕ) (y : 
     → y ≡ shown xs
 at_end shown xs i y past so_far = so_far ∙ ap shown (take_all i xs past)
 
--- one more item, behind other values and those of the items before it
+-- one more item, after other values and those of the items before it
 pub mapped_behind : {X Y : Type 0} (f : X → Y) (front : List Y) (xs : List X) (i : ℕ) (x : X) (ys : List Y)
     → i < length xs → ys ≡ front ++ map f (take i xs)
     → ys ++ f (get_or xs i x) ∷ [] ≡ front ++ map f (take (i + 1) xs)
 mapped_behind f front xs i x ys within so_far =
     rw (map_more f xs i x within, so_far) (append_assoc front (map f (take i xs)) (f (get_or xs i x) ∷ []))
 
--- one more item that passes the test, behind other values and the items before it that pass
+-- one more item that passes the test, after other values and the items before it that pass
 pub kept_behind : {X : Type 0} (p : X → Bool) (front xs : List X) (i : ℕ) (x : X) (ys : List X) → i < length xs
     → ys ≡ front ++ filter p (take i xs) → p (get_or xs i x) ≡ true
     → ys ++ get_or xs i x ∷ [] ≡ front ++ filter p (take (i + 1) xs)
@@ -227,7 +227,7 @@ kept_behind p front xs i x ys within so_far passes =
     rw (filter_more p xs i x within, passes, so_far)
     (append_assoc front (filter p (take i xs)) (get_or xs i x ∷ []))
 
--- one more item that fails the test, behind other values and the items before it that pass
+-- one more item that fails the test, after other values and the items before it that pass
 pub left_out : {X : Type 0} (p : X → Bool) (front xs : List X) (i : ℕ) (x : X) (ys : List X) → i < length xs
     → ys ≡ front ++ filter p (take i xs) → p (get_or xs i x) ≡ false
     → ys ≡ front ++ filter p (take (i + 1) xs)

@@ -16,7 +16,7 @@ host port user = record { port = port; user = user }
 hosts_equal : (p q user v : ℕ) → p ≡ q → user ≡ v → host p user ≡ host q v
 hosts_equal p q user v same equal = cc
 
--- two hosts are the same just if their ports and their users are
+-- two hosts are the same exactly if their ports and their users are
 pub same_host : (other_host third_host : HostPart) → Decides
     (eqb other_host.port third_host.port && eqb other_host.user third_host.user) (other_host ≡ third_host)
 same_host other_host third_host =
@@ -43,7 +43,7 @@ nodes_equal : (m n : ℕ) (numbers other_numbers : List (Option ℕ)) → m ≡ 
     ≡ node n other_numbers
 nodes_equal m n numbers other_numbers same equal = cc
 
--- two nodes are the same just if their sizes of memory and their links are
+-- two nodes are the same exactly if their sizes of memory and their links are
 pub same_node : (other_node third_node : NodePart) → Decides
     (eqb other_node.memory third_node.memory && pointwise (option_eq eqb) other_node.links third_node.links)
     (other_node ≡ third_node)

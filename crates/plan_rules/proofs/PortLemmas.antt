@@ -1,5 +1,5 @@
 -- The physical ports of ranges that share no port: they are a numbering,
--- for the law `faultless_plans_are_separate` and for `count_of`.
+-- for the law `faultless_plans_are_separate` and for `port_count`.
 use Rattle.std.proofs.Common.{◌≡◌, ◌≢◌, ◌<◌, ◌≤◌, ◌+◌, ◌-◌, ◌++◌, ◌∙◌, inl, inr, ℕ, zero, suc, ℤ, pos, unsigned_abs}
 use Rattle.std.proofs.Common.{◌≤ℤ◌, List, [], ◌∷◌, Some, None, length, get_or, map, flat_map, replicate, All, AllPairs}
 use Rattle.std.proofs.Common.{refl, ap, sym, subst, arith, length-append, eqb, true}
@@ -16,7 +16,7 @@ use Rattle.std.proofs.lemmas.Map.Made.{IsDistinct-from_AllPairs}
 use Rattle.std.proofs.lemmas.Map.Steps.{length-le_from_distinct_below}
 use Rattle.crossbar.specs.Ranges.{ports_of, ranged_ports, IsOneToOne, IsNumbering, AreRanges, IsPortRange as IsPlace}
 use Rattle.plan_rules.specs.declared.plan.RangePlan.{RangePlan}
-use Rattle.plan_rules.specs.Separate.{IsRange, ShareNoPort, HasPort, length_of, count_of}
+use Rattle.plan_rules.specs.Separate.{IsRange, ShareNoPort, HasPort, length_of, port_count}
 use Rattle.plan_rules.specs.Part.{port_range}
 use Rattle.plan_rules.proofs.ListLemmas.{all_joined, pairs_append, pairs_head, pairs_tail, pairs_nil}
 
@@ -65,7 +65,7 @@ length_own r given =
     omega (arith, ints, first, last, len, given.1)
 
 -- ranges have as many ports as their ends say
-pub length_all : (rs : List RangePlan) → All IsRange rs → pos (length (all_ports rs)) ≡ count_of rs
+pub length_all : (rs : List RangePlan) → All IsRange rs → pos (length (all_ports rs)) ≡ port_count rs
 length_all [] given = refl
 length_all (r ∷ rs) given =
     let here = length_own r (All-head IsRange r rs given) in
@@ -167,7 +167,7 @@ pub numbering : (rs : List RangePlan) → All IsRange rs → AllPairs ShareNoPor
 numbering rs given apart =
     record { below = ports_below rs given; one_to_one = one_to_one (all_ports rs) (ports_distinct rs given apart) }
 
--- the ranges of a plan that share no port, with none behind them, are ranges that a numbering may have
+-- the ranges of a plan that share no port, with none after them, are ranges that a numbering may have
 pub are_ranges : (rs : List RangePlan) (n : ℕ) → All IsRange rs → AllPairs ShareNoPort rs
     → AreRanges (map (λ r. Some (port_range r)) rs ++ replicate n None)
 are_ranges rs n given apart = record {

@@ -10,7 +10,7 @@ use Rattle.std.proofs.lemmas.Bool.{cases_Bool, false≢true}
 use Rattle.std.proofs.lemmas.List.{take_more, take-append-drop}
 use Rattle.std.proofs.lemmas.List.Elements.{All-head, All-tail, All-drop}
 use Rattle.plan_rules.specs.declared.plan.RangePlan.{RangePlan}
-use Rattle.plan_rules.specs.Separate.{IsRange, length_of, count_of}
+use Rattle.plan_rules.specs.Separate.{IsRange, length_of, port_count}
 
 -- Two ranges share no port exactly where the least of the lasts lies below the greatest of the firsts.
 pub differs_from : (integer other_integer third_integer fourth_integer low high : ℤ) → low
@@ -42,19 +42,19 @@ pub some_pass : {X : Type 0} (p : X → Bool) (xs : List X) → IsTrue (list_any
 some_pass p [] = (λ h. absurd (false≢true h), λ h. absurd (omega arith))
 some_pass p (x ∷ xs) = some_at (p x) p x xs (some_pass p xs)
 
-count_of-append : (rs ss : List RangePlan) → count_of (rs ++ ss) ≡ count_of rs +ℤ count_of ss
-count_of-append [] ss = omega (arith, ints)
-count_of-append (r ∷ rs) ss = let h = count_of-append rs ss in omega (arith, ints, h)
+port_count-append : (rs ss : List RangePlan) → port_count (rs ++ ss) ≡ port_count rs +ℤ port_count ss
+port_count-append [] ss = omega (arith, ints)
+port_count-append (r ∷ rs) ss = let h = port_count-append rs ss in omega (arith, ints, h)
 
 -- the ports of the ranges up to one more
 pub count_more : (rs : List RangePlan) (i : ℕ) (range : RangePlan) → i < length rs
-    → count_of (take (i + 1) rs) ≡ count_of (take i rs) +ℤ length_of (get_or rs i range)
+    → port_count (take (i + 1) rs) ≡ port_count (take i rs) +ℤ length_of (get_or rs i range)
 count_more rs i range within =
-    let h = count_of-append (take i rs) (get_or rs i range ∷ []) in
+    let h = port_count-append (take i rs) (get_or rs i range ∷ []) in
     rw (take_more rs i range within) (omega (arith, ints, h))
 
 -- the number of ports of ranges isn't negative
-pub count_least : (rs : List RangePlan) → All IsRange rs → pos 0 ≤ℤ count_of rs
+pub count_least : (rs : List RangePlan) → All IsRange rs → pos 0 ≤ℤ port_count rs
 count_least [] given = omega (arith, ints)
 count_least (r ∷ rs) given =
     let here = All-head IsRange r rs given in
@@ -63,17 +63,18 @@ count_least (r ∷ rs) given =
 
 -- a port that a range holds, past those before it
 pub port_within : (rs : List RangePlan) (i : ℕ) (range : RangePlan) (port left : ℤ) → All IsRange rs → i < length rs
-    → port ≡ count_of (take i rs) +ℤ left → left <ℤ length_of (get_or rs i range) → port <ℤ count_of rs
+    → port ≡ port_count (take i rs) +ℤ left → left <ℤ length_of (get_or rs i range) → port <ℤ port_count rs
 port_within rs i range port left ranges within is less =
-    let whole : count_of rs ≡ count_of (take (i + 1) rs) +ℤ count_of (drop (i + 1) rs) =
-    ap count_of (sym (take-append-drop (i + 1) rs)) ∙ count_of-append (take (i + 1) rs) (drop (i + 1) rs) in
+    let whole : port_count rs ≡ port_count (take (i + 1) rs) +ℤ port_count (drop (i + 1) rs) =
+    ap port_count (sym (take-append-drop (i + 1) rs)) ∙ port_count-append (take (i + 1) rs) (drop (i + 1) rs) in
     let more = count_more rs i range within in
     let rest = count_least (drop (i + 1) rs) (All-drop IsRange (i + 1) rs ranges) in
     omega (arith, ints, whole, more, rest, is, less)
 
 -- the next range's ports lie past those before it
 pub port_past : (rs : List RangePlan) (i : ℕ) (range : RangePlan) (port left : ℤ) → i < length rs
-    → port ≡ count_of (take i rs) +ℤ left → port ≡ count_of (take (i + 1) rs) +ℤ (left -ℤ length_of (get_or rs i range))
+    → port ≡ port_count (take i rs) +ℤ left → port ≡ port_count (take (i + 1) rs) +ℤ
+    (left -ℤ length_of (get_or rs i range))
 port_past rs i range port left within is =
     let more = count_more rs i range within in
     omega (arith, ints, more, is)

@@ -21,7 +21,7 @@ use Rattle.plan_rules.specs.declared.fault.PlanFault.TheVariants.{SharedPort, No
 use Rattle.plan_rules.specs.declared.fault.PlanFault.TheVariants.{HostCount, UnwiredNode, Limit}
 use Rattle.plan_rules.specs.declared.fault.PlanFault.TheVariants.{NoMemory, RangeCount, UserCount}
 use Rattle.plan_rules.specs.Separate.{IsSeparate, IsFrom, Lies, IsName, HaveOtherNames, IsRange, ShareNoPort}
-use Rattle.plan_rules.specs.Separate.{HasWiredLink, IsPlannedMemory, IsVirtualPort, IsDistinct, length_of, count_of}
+use Rattle.plan_rules.specs.Separate.{HasWiredLink, IsPlannedMemory, IsVirtualPort, IsDistinct, length_of, port_count}
 use Rattle.plan_rules.specs.Separate.{is_wired, wired_links, hosts_of, used_ports}
 use Rattle.plan_rules.specs.Part.{IsPart, part_with, IsNodePart, part_of, node_part, port_at, host_part, host_parts}
 use Rattle.plan_rules.specs.Part.{wired_ports, ports_used, IsNumbered, AreSeparate}
@@ -175,9 +175,9 @@ is_part d sep =
           (λ k n less. node_is (get_or d.nodes k n) (sizes k n less) (wired k n less));
       below =
           rw (abs_used d)
-          (All-map (λ port. port < unsigned_abs (count_of d.ranges)) unsigned_abs (used_ports d)
+          (All-map (λ port. port < unsigned_abs (port_count d.ranges)) unsigned_abs (used_ports d)
           (λ k x less.
-          abs_below (get_or (used_ports d) k x) (count_of d.ranges) (ports k x less).0 (ports k x less).1));
+          abs_below (get_or (used_ports d) k x) (port_count d.ranges) (ports k x less).0 (ports k x less).1));
       distinct = rw (abs_used d) (abs_distinct (used_ports d) (λ k x less. (ports k x less).0) twice);
       owners = owners 0 (length d.users) d.users (omega arith);
     }
@@ -274,7 +274,7 @@ links_small d sep =
     all_lists (Lies (pos 0) (pos 31)) wired_links d.nodes
     (all_right (Lies (pos 0) (pos 31)) (hosts_of d) (flat_map wired_links d.nodes) (used_small d sep))
 
--- the hosts of one user more stand behind those of the users before, with his number
+-- the hosts of one user more come after those of the users before, with the user's number
 pub hosts_more : (number : ℕ) (us : List UserData) (u : UserData)
     → host_parts number (us ++ u ∷ []) ≡ host_parts number us ++ map (host_part (number + length us)) u.hosts
 hosts_more number [] u =
@@ -291,9 +291,9 @@ hosts_more number (v ∷ us) u =
 
 -- the number of ports of one range more is the sum, and is at most 32 a range
 pub counted : (rs : List RangePlan) (i : ℕ) (range : RangePlan) (count size : ℕ)
-    → i < 4 → All IsRange rs → i < length rs → pos count ≡ count_of (take i rs) → count ≤ 32 * i
+    → i < 4 → All IsRange rs → i < length rs → pos count ≡ port_count (take i rs) → count ≤ 32 * i
     → pos size ≡ length_of (get_or rs i range)
-    → (pos (count + size) ≡ count_of (take (i + 1) rs)) × (count + size ≤ 32 * (i + 1))
+    → (pos (count + size) ≡ port_count (take (i + 1) rs)) × (count + size ≤ 32 * (i + 1))
 counted rs i range count size few ranges within is below len =
     let more = count_more rs i range within in
     let here = ranges i range within in
@@ -355,11 +355,11 @@ limit_of d sep = All-head (λ (d : DomainData). Lies (pos 1) (pos (2 ^ 40)) d.li
 
 -- a part made of these numbers and lists
 pub part_is : (d : DomainData) (count limit users : ℕ) (nodes : List NodePart) (hosts : List HostPart)
-    → pos count ≡ count_of d.ranges → limit ≡ unsigned_abs d.limit → users ≡ length d.users
+    → pos count ≡ port_count d.ranges → limit ≡ unsigned_abs d.limit → users ≡ length d.users
     → nodes ≡ map node_part d.nodes → hosts ≡ host_parts 0 d.users
     → part_with count limit users nodes hosts ≡ part_of d
 part_is d count limit users nodes hosts equal agrees alike matches other_same =
-    let same : count ≡ unsigned_abs (count_of d.ranges) = ap unsigned_abs equal in cc
+    let same : count ≡ unsigned_abs (port_count d.ranges) = ap unsigned_abs equal in cc
 
 -- the four places of a row have the ranges in their order, and then none
 pub row_places : (rs : List RangePlan) → length rs ≤ 4

@@ -9,7 +9,7 @@ use Rattle.plan_rules.specs.declared.plan.RangePlan.{RangePlan}
 use Rattle.plan_rules.specs.declared.part.NodePart.{NodePart}
 use Rattle.plan_rules.specs.declared.part.HostPart.{HostPart}
 use Rattle.plan_rules.specs.Data.{UserData, DomainData}
-use Rattle.plan_rules.specs.Separate.{IsSeparate, IsFrom, IsDistinct, count_of, is_wired}
+use Rattle.plan_rules.specs.Separate.{IsSeparate, IsFrom, IsDistinct, port_count, is_wired}
 
 -- a domain without names and physical ports: its number of virtual ports, the limit of its recorded events,
 -- the number of its users, its nodes, and its hosts in the order of their numbers
@@ -69,7 +69,7 @@ host_parts number (u ∷ us) = map (host_part number) u.hosts ++ host_parts (num
 -- the part of a domain
 abbrev pub part_of : DomainData → PartData
 part_of d = record {
-  count = unsigned_abs (count_of d.ranges);
+  count = unsigned_abs (port_count d.ranges);
   limit = unsigned_abs d.limit;
   users = length d.users;
   nodes = map node_part d.nodes;

@@ -49,13 +49,13 @@ abbrev pub length_of : RangePlan → ℤ
 length_of r = (r.last -ℤ r.first) +ℤ pos 1
 
 -- the number of ports of a list of ranges
-abbrev pub count_of : List RangePlan → ℤ
-count_of [] = pos 0
-count_of (r ∷ rs) = length_of r +ℤ count_of rs
+abbrev pub port_count : List RangePlan → ℤ
+port_count [] = pos 0
+port_count (r ∷ rs) = length_of r +ℤ port_count rs
 
 -- a virtual port is one of the domain's
 abbrev pub IsVirtualPort : List RangePlan → ℤ → Type 0
-IsVirtualPort ranges port = (pos 0 ≤ℤ port) × (port <ℤ count_of ranges)
+IsVirtualPort ranges port = (pos 0 ≤ℤ port) × (port <ℤ port_count ranges)
 
 -- a multiple of 4 from 2,048 to 65,536
 abbrev pub IsPlannedMemory : ℤ → Type 0

@@ -1,6 +1,6 @@
 //! Making the parts of the domains of a separate plan.
 ghost use Rattle.std.specs.Prelude.{◌≡◌, ◌≤◌, ◌++◌, pos, IsTrue, IfOk, OnOk, All, map, length, unsigned_abs, [], ◌∷◌};
-ghost use Rattle.plan_rules.specs.Separate.{IsSeparate, IsRange, IsPlannedMemory, Lies, is_wired, wired_links, count_of};
+ghost use Rattle.plan_rules.specs.Separate.{IsSeparate, IsRange, IsPlannedMemory, Lies, is_wired, wired_links, port_count};
 ghost use Rattle.plan_rules.specs.Part.{part_of, node_part, port_at, host_part, host_parts};
 
 use crate::NoMemory;
@@ -73,10 +73,10 @@ fn host_parts(alloc: Global, users: &[UserPlan]) -> Result<Vec<HostPart>, NoMemo
 }
 
 /// How many ports the ranges have.
-fn count_of(ranges: &[RangePlan]) -> u8
+fn port_count(ranges: &[RangePlan]) -> u8
     requires ranges { All IsRange ranges.now }
     requires few { length ranges.now ≤ 4 }
-    ensures { pos result ≡ count_of ranges.now }
+    ensures { pos result ≡ port_count ranges.now }
 {
     let mut count = 0;
     for range in ranges {
@@ -93,7 +93,7 @@ fn part_of(alloc: Global, domain: &DomainPlan) -> Result<Part, NoMemory>
     let nodes = node_parts(alloc, domain.nodes.as_slice())?;
     let hosts = host_parts(alloc, domain.users.as_slice())?;
     Ok(Part {
-        count: count_of(domain.ranges.as_slice()),
+        count: port_count(domain.ranges.as_slice()),
         limit: domain.limit as u64,
         users: domain.users.len() as u8,
         nodes,

@@ -158,7 +158,7 @@ followed-stayed : (outcome : Result ℕ Fault) (q queue : Queue) (m n : List ℕ
 followed-stayed (Ok next) q queue m n f same = cc
 followed-stayed (Err fault) q queue m n f same = cc
 
--- a take that is done found the first link word in memory, if others wait behind it
+-- a take that is done found the first link word in memory, if others wait after it
 pub take-inside : (q queue : Queue) (m n : List ℕ) (number : Option ℕ)
     → after_take q m ≡ Gave number queue n → q.front ≢ not_process → q.front ≢ q.back
     → word_at m (link_of q.front) ≡ Err OutsideMemory
@@ -177,7 +177,7 @@ take-outside q queue m n f equal =
     let same = word_at-fault m (link_of q.front) f unread in
     (same, process, last, rw (← same) unread)
 
--- the first is taken, and the others stand
+-- the first is taken, and the others stay
 pub stands-take : (ws : List ℕ) (q : Queue) (m : List ℕ) → Stands m q ws
     → (queue : Queue) × (after_take q m ≡ Gave (first ws) queue m) × Stands m queue (others ws)
 stands-take [] q m stands = (q, take_empty q m stands, stands)

@@ -1,4 +1,4 @@
--- A moment that goes on by the calls for which entries of a journal stand: the contract of `Follower::follow_entries`,
+-- A moment that goes on by the calls of a journal's entries: the contract of `ReplayedDomain::apply_entries`,
 -- and those of the calls that it makes.
 use Rattle.std.specs.Prelude.{◌≡◌, ◌+◌, ◌-◌, ◌<◌, ◌≤◌, take, ◌++◌, ◌∷◌, [], ℕ, zero, suc, List, length, replicate}
 use Rattle.std.proofs.Common.{refl, ap, sym, subst, ◌∙◌, arith, get_or, append_assoc}
@@ -18,7 +18,7 @@ use Rattle.domain_core.specs.PrivateFarm.{Call}
 use Rattle.record_following.specs.Following.{entry_calls, calls_before, FollowsCalls, MovesOn}
 use Rattle.record_following.proofs.Followed.{alike_calls, one_more}
 
--- ---- no call, and one list of calls behind another
+-- ---- no call, and one list of calls after another
 
 -- a moment goes on by no call
 pub stays : (m : MomentValue) → MovesOn m [] m
@@ -61,7 +61,7 @@ moves_twice moment other_moment third_moment xs ys one two =
       };
     }
 
--- a moment that goes on by so many calls that are alike, and then by one more, goes on by one more of them
+-- a moment that goes on by that many calls that are alike, and then by one more, goes on by one more of them
 pub moves_more : (moment other_moment third_moment : MomentValue) (before count : ℕ) (call : Call)
     → before + 1 ≡ count → MovesOn moment (replicate before call) other_moment
     → MovesOn other_moment (call ∷ []) third_moment
@@ -89,7 +89,7 @@ pub run_entry : (by : By) (node count : ℕ) (last : Stepped)
     → entry_calls (Run by node count last ∷ []) ≡ replicate count (record { by = by; event = Step node })
 run_entry by node count last = ap calls_of (append-nil (steps by node count last)) ∙ run_calls by node count last
 
--- the first calls of a run are those of a shorter run, all of which ran
+-- the first calls of a run are those of a shorter run that all ran
 pub run_cut : (by : By) (node count most : ℕ) (last : Stepped) → most < count
     → entry_calls (Run by node most Ran ∷ []) ≡ take most (entry_calls (Run by node count last ∷ []))
 run_cut by node count most last less =
@@ -117,9 +117,9 @@ pub moves_run : (moment other_moment : MomentValue) (by : By) (node count : ℕ)
 moves_run moment other_moment by node count last on =
     subst (λ (calls : List Call). MovesOn moment calls other_moment) (sym (run_entry by node count last)) on
 
--- ---- calls up to so many events
+-- ---- calls up to that many events
 
--- if so many events are recorded already, no call comes before, and the moment stays
+-- if that many events are recorded already, no call comes before, and the moment stays
 pub none_before : (m : MomentValue) (most : ℕ) (calls : List Call) → most - m.recorded ≡ 0
     → MovesOn m (calls_before most m calls) m
 none_before m most calls none = stays_by m (calls_before most m calls) (ap (λ k. take k calls) none)

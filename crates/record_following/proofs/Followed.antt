@@ -1,4 +1,4 @@
--- A moment that goes on by calls: the contracts of `Follower::open`, `follow_event` and `follow_steps`,
+-- A moment that goes on by calls: the contracts of `ReplayedDomain::open`, `apply_event` and `apply_steps`,
 -- and the law `moments_go_on`.
 use Rattle.std.specs.Prelude.{◌≡◌, ◌+◌, ◌++◌, ◌∷◌, [], ℕ, zero, suc, List, Option}
 use Rattle.std.specs.Prelude.{Some, None, Ok, IfSome, replicate, slice_get}
@@ -45,7 +45,7 @@ one_call grow old new call reply called part recorded =
 pub one_more : (more : ℕ) → more + 1 ≡ suc more
 one_more more = omega arith
 
--- Steps of which the last ran all ran
+-- Steps whose last ran all ran
 ran_told : (node count : ℕ) → steps_told node count (Some Ran) ≡ replicate count (answered_step Farm node Ran)
 ran_told node zero = refl
 ran_told node (suc more) =
@@ -100,7 +100,7 @@ pub opened : (plan : List DomainData) (number : ℕ) (m : MomentValue)
     → IsMomentAfter plan number [] m
 opened plan number m state part = opened_at (slice_get plan number) m state part
 
--- a state after calls, and after others behind them
+-- a state after calls, and after others after them
 state_on : (part : PartData) (s t : State) (xs ys : List Call) → IsStateAfter part xs s → FollowsCalls part s ys t
     → IsStateAfter part (xs ++ ys) t
 state_on part s t xs ys given holds = record {
@@ -112,7 +112,7 @@ state_on part s t xs ys given holds = record {
   recorded_is = omega (arith, given.recorded_is, holds.recorded_is, length-append xs ys);
 }
 
--- a moment after calls, and after others behind them
+-- a moment after calls, and after others after them
 moved_at : (domain : Option DomainData) (xs ys : List Call) (moment other_moment : MomentValue)
     → IfSome domain (λ domain. (moment.machine.part ≡ part_of domain)
     × IsStateAfter (part_of domain) xs (state_at moment)) → MovesOn moment ys other_moment

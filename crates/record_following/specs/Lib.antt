@@ -1,4 +1,4 @@
 -- what must be believed
 pub mod Following
 -- what only helps contracts
-pub mod Progress
+pub mod RecordCursor

@@ -4,7 +4,7 @@ ghost use Rattle.std.specs.Prelude.{◌≡◌, ◌<◌, ◌∷◌, [], OnOk, tak
 ghost use Rattle.record_following.specs.Following.{entry_calls, calls_before, MovesOn};
 
 use crate::fault::FollowFault;
-use crate::following::Follower;
+use crate::following::ReplayedDomain;
 use domain_core::laws::journals_add_up;
 use domain_core::{By, Entry, Event, Reply};
 use t414_step::Stepped;
@@ -37,12 +37,12 @@ fn beginning(entry: Entry, most: u64) -> Entry
     }
 }
 
-impl Follower {
+impl ReplayedDomain {
     // Does one event, which was answered so.
-    fn follow_answered(&mut self, by: By, event: Event, reply: Reply) -> Result<(), FollowFault>
+    fn apply_with_reply(&mut self, by: By, event: Event, reply: Reply) -> Result<(), FollowFault>
         ensures { OnOk result (MovesOn self.old (record { by = by; event = event } ∷ []) self.new) }
     {
-        if self.follow_event(by, event)?.reply == reply {
+        if self.apply_event(by, event)?.reply == reply {
             Ok(())
         } else {
             Err(FollowFault::Differs)
@@ -51,7 +51,7 @@ impl Follower {
 
     // Does `count` Steps of a node, which all ran. `NoEvent` if a user asked for them: only the farm steps.
     #[tactic(auto, using(crate::proofs::EntryCalls::stays_by))]
-    fn follow_ran(&mut self, by: By, node: u8, count: u64) -> Result<(), FollowFault>
+    fn apply_ran_steps(&mut self, by: By, node: u8, count: u64) -> Result<(), FollowFault>
         ensures { OnOk result (MovesOn self.old (replicate count (record { by = by; event = Event.Step node })) self.new) }
     {
         if count == 0 {
@@ -59,7 +59,7 @@ impl Follower {
         }
         match by {
             By::Farm => {
-                self.follow_steps(node, count)?;
+                self.apply_steps(node, count)?;
                 Ok(())
             }
             By::User(_) => Err(FollowFault::NoEvent),
@@ -68,55 +68,55 @@ impl Follower {
 
     // Does `count` Steps of a node: the last one came to `last`, and those before it ran.
     #[tactic(auto, using(crate::proofs::EntryCalls::stays_by))]
-    fn follow_run(&mut self, by: By, node: u8, count: u64, last: Stepped) -> Result<(), FollowFault>
+    fn apply_run(&mut self, by: By, node: u8, count: u64, last: Stepped) -> Result<(), FollowFault>
         ensures { OnOk result (MovesOn self.old (replicate count (record { by = by; event = Event.Step node })) self.new) }
     {
         if last == Stepped::Ran {
-            return self.follow_ran(by, node, count);
+            return self.apply_ran_steps(by, node, count);
         }
         let Some(before) = count.checked_sub(1) else {
             return Ok(());
         };
-        self.follow_ran(by, node, before)?;
-        self.follow_answered(by, Event::Step(node), Reply::Stepped(last))
+        self.apply_ran_steps(by, node, before)?;
+        self.apply_with_reply(by, Event::Step(node), Reply::Stepped(last))
     }
 
     // Does what an entry stands for.
-    fn follow_entry(&mut self, entry: Entry) -> Result<(), FollowFault>
+    fn apply_entry(&mut self, entry: Entry) -> Result<(), FollowFault>
         ensures { OnOk result (MovesOn self.old (entry_calls (entry ∷ [])) self.new) }
     {
         match entry {
-            Entry::One { by, event, reply } => self.follow_answered(by, event, reply),
+            Entry::One { by, event, reply } => self.apply_with_reply(by, event, reply),
             Entry::Run {
                 by,
                 node,
                 count,
                 last,
-            } => self.follow_run(by, node, count, last),
+            } => self.apply_run(by, node, count, last),
         }
     }
 
     // Does what an entry stands for, until `most` events are recorded.
     #[tactic(auto, using(crate::proofs::EntryCalls::none_before, crate::proofs::EntryCalls::moves_before))]
-    fn follow_before(&mut self, entry: Entry, most: u64) -> Result<(), FollowFault>
+    fn apply_entry_before(&mut self, entry: Entry, most: u64) -> Result<(), FollowFault>
         ensures { OnOk result (MovesOn self.old (calls_before most self.old (entry_calls (entry ∷ []))) self.new) }
     {
         let left = most.saturating_sub(self.recorded_events());
         if left == 0 {
             return Ok(());
         }
-        self.follow_entry(beginning(entry, left))
+        self.apply_entry(beginning(entry, left))
     }
 
     /// Does what the next entries of the domain's journal stand for, until `most` events are recorded, and compares what the
     /// domain answers with what they say. After an error nothing is guaranteed about the moment.
-    pub fn follow_entries(&mut self, entries: &[Entry], most: u64) -> Result<(), FollowFault>
+    pub fn apply_entries(&mut self, entries: &[Entry], most: u64) -> Result<(), FollowFault>
         ensures { OnOk result (MovesOn self.old (calls_before most self.old (entry_calls entries.now)) self.new) }
     {
         // Entries stand for what the one and then the others stand for.
         journals_add_up();
         for entry in entries {
-            self.follow_before(*entry, most)?;
+            self.apply_entry_before(*entry, most)?;
         }
         Ok(())
     }

@@ -1,12 +1,12 @@
 //! Why nothing is said of a record.
 
 use domain_core::Refusal;
-use line_mistakes::{WordMistake, WrongLine};
-use line_words::{NumberedLineFault, WordFault};
+use lab_words::{NumberedLineFault, WordFault};
 use plan_checker::PlanFault;
 use std::alloc::{AllocError, AllocFailed};
-use step_meter::StepsEnd;
+use step_meter::OutOfSteps;
 use thiserror::Error;
+use word_mistakes::{WordMistake, WrongLine};
 
 /// Why a line of a record isn't done.
 #[derive(Clone, Copy, Debug, Error)]
@@ -117,7 +117,7 @@ pub enum LineStop {
     Follow(FollowFault),
     /// It has more Steps than may be done.
     #[error("{0}")]
-    Steps(StepsEnd),
+    Steps(OutOfSteps),
 }
 
 impl LineStop {
@@ -136,8 +136,8 @@ impl From<FollowFault> for LineStop {
     }
 }
 
-impl From<StepsEnd> for LineStop {
-    fn from(end: StepsEnd) -> LineStop {
+impl From<OutOfSteps> for LineStop {
+    fn from(end: OutOfSteps) -> LineStop {
         LineStop::Steps(end)
     }
 }
@@ -156,7 +156,7 @@ pub enum RecordStop {
     Record(WhyFault),
     /// Its lines have more Steps than may be done.
     #[error("{0}")]
-    Steps(StepsEnd),
+    Steps(OutOfSteps),
 }
 
 impl From<WhyFault> for RecordStop {

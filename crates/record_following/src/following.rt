@@ -9,9 +9,9 @@ ghost use Rattle.domain_core.specs.PortStates.{IsPortState};
 ghost use Rattle.domain_core.specs.PrivateFarm.{opening};
 ghost use Rattle.record_following.specs.Following.{calls_said, MovesOn, IsMomentAfter};
 
+use crate::before_event::{Observed, code_end_of, note_event, seen_before, zeros_behind};
 use crate::fault::FollowFault;
-use crate::glance::{Observed, code_end_of, glance_before, note_event, zeros_behind};
-use crate::past::Past;
+use crate::notes::EventNotes;
 use crate::trail::Trail;
 use bootstrap::Node;
 use crossbar::Word;
@@ -25,26 +25,26 @@ use std::marker::Model;
 use t414_step::Stepped;
 
 /// A domain at the moment to which its record leads, and what was noted on the way.
-pub struct Follower {
+pub struct ReplayedDomain {
     alloc: Global,
     moment: Moment,
-    past: Past,
+    notes: EventNotes,
     trail: Trail,
 }
 
 // Dropped by hand, since a derived `Drop` makes callers prove the drop of each field.
-impl Drop for Follower {
+impl Drop for ReplayedDomain {
     fn drop(self) {
-        let Follower {
+        let ReplayedDomain {
             alloc: _,
             moment: _,
-            past: _,
+            notes: _,
             trail: _,
         } = self;
     }
 }
 
-impl Model for Follower {
+impl Model for ReplayedDomain {
     ghost use Rattle.domain_core.specs.Moments.{MomentValue};
 
     ghost Value = { MomentValue };
@@ -54,24 +54,24 @@ impl Model for Follower {
 
 /// What a call came to.
 #[derive(Clone, Copy)]
-pub struct Outcome {
+pub struct CallOutcome {
     /// The answer, of several Steps that to each.
     pub reply: Reply,
     /// What waited at the port of a Move before it.
     pub port: Option<PortState>,
 }
 
-impl Follower {
+impl ReplayedDomain {
     /// The domain of this number of a plan as it is opened. `NoMemory` where memories or queues can't be allocated.
     #[tactic(auto, using(crate::proofs::Followed::opened))]
-    pub fn open(alloc: Global, plan: &AcceptedPlan, number: u8) -> Result<Follower, NoMemory>
+    pub fn open(alloc: Global, plan: &AcceptedPlan, number: u8) -> Result<ReplayedDomain, NoMemory>
         requires { number < length plan.now }
         ensures after { IfOk result (λ f. IsMomentAfter plan.now number [] f) }
     {
-        Ok(Follower {
+        Ok(ReplayedDomain {
             alloc,
             moment: Moment::open(alloc, plan, number)?,
-            past: Past::new(),
+            notes: EventNotes::new(),
             trail: Trail::new(),
         })
     }
@@ -84,18 +84,18 @@ impl Follower {
     }
 
     /// What was noted on the way.
-    pub fn past(&self) -> &Past {
-        &self.past
+    pub fn notes(&self) -> &EventNotes {
+        &self.notes
     }
 
-    /// An equal follower with memories and queues of its own. `NoMemory` where they can't be allocated.
-    pub fn copy(&self) -> Result<Follower, NoMemory>
+    /// An equal replayed domain with memories and queues of its own. `NoMemory` where they can't be allocated.
+    pub fn copy(&self) -> Result<ReplayedDomain, NoMemory>
         ensures { IfOk result (λ f. f ≡ self.now) }
     {
-        Ok(Follower {
+        Ok(ReplayedDomain {
             alloc: self.alloc,
             moment: self.moment.copy(self.alloc)?,
-            past: self.past,
+            notes: self.notes,
             trail: Trail::new(),
         })
     }
@@ -108,14 +108,14 @@ impl Follower {
     }
 
     // Does one event, which is recorded.
-    pub(crate) fn follow_event(&mut self, by: By, event: Event) -> Result<Outcome, FollowFault>
+    pub(crate) fn apply_event(&mut self, by: By, event: Event) -> Result<CallOutcome, FollowFault>
         ensures { IfOk result (λ outcome. MovesOn self.old (record { by = by; event = event } ∷ []) self.new) }
     {
         // What comes next makes a history longer.
         histories_grow();
         let before = self.moment.recorded_events();
         let times = 1;
-        let glance = glance_before(&mut self.moment, event)?;
+        let before_event = seen_before(&mut self.moment, event)?;
         let call = RecordedCall { times, by, event };
         self.trail.note(self.alloc, &self.moment, call)?;
         let reply = self.moment.apply(by, event)?;
@@ -123,17 +123,20 @@ impl Follower {
         if after <= before || after - before != 1 {
             return Err(FollowFault::NotRecorded);
         }
-        let zeros = zeros_behind(self.alloc, &self.moment, &self.trail, glance, reply)?;
-        let seen = Observed { glance, zeros };
-        note_event(&mut self.past, &self.moment, seen, event, reply, after);
-        Ok(Outcome {
+        let zeros = zeros_behind(self.alloc, &self.moment, &self.trail, before_event, reply)?;
+        let seen = Observed {
+            before_event,
+            zeros,
+        };
+        note_event(&mut self.notes, &self.moment, seen, event, reply, after);
+        Ok(CallOutcome {
             reply,
-            port: glance.port(),
+            port: before_event.port(),
         })
     }
 
     // Does Steps of a node in one burst. `Fewer` if not all of them run.
-    pub(crate) fn follow_steps(&mut self, node: u8, times: u64) -> Result<Reply, FollowFault>
+    pub(crate) fn apply_steps(&mut self, node: u8, times: u64) -> Result<Reply, FollowFault>
         ensures { IfOk result (λ reply. MovesOn self.old (calls_said (record { times = times; by = By.Farm; event = Event.Step node })) self.new) }
     {
         let code_end = match self.moment.node(node) {
@@ -150,25 +153,25 @@ impl Follower {
         if burst.steps != times || burst.last != Some(Stepped::Ran) {
             return Err(FollowFault::Fewer);
         }
-        self.past.note_steps(node, times, code_end);
+        self.notes.note_steps(node, times, code_end);
         Ok(Reply::Stepped(Stepped::Ran))
     }
 
     // Does a call as often as it says. `NoEvent` if the call is a part of a line of several events, unless it is of Steps for which
     // the farm asks. After an error nothing is guaranteed about the moment.
-    pub(crate) fn follow_call(
+    pub(crate) fn apply_call(
         &mut self,
         call: RecordedCall,
         is_one: bool,
-    ) -> Result<Outcome, FollowFault>
+    ) -> Result<CallOutcome, FollowFault>
         ensures { IfOk result (λ outcome. MovesOn self.old (calls_said call) self.new) }
     {
         let RecordedCall { times, by, event } = call;
         match (times, by, event) {
-            (1, _, _) if is_one => self.follow_event(by, event),
+            (1, _, _) if is_one => self.apply_event(by, event),
             (_, By::Farm, Event::Step(node)) => {
-                let reply = self.follow_steps(node, times)?;
-                Ok(Outcome { reply, port: None })
+                let reply = self.apply_steps(node, times)?;
+                Ok(CallOutcome { reply, port: None })
             }
             _ => Err(FollowFault::NoEvent),
         }

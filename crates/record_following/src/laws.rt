@@ -1,7 +1,7 @@
 //! Laws of the moments to which a domain is led.
 
 ghost use Rattle.record_following.specs.Following.{MomentsGoOn};
-ghost use Rattle.record_following.specs.Progress.{ProgressEnds};
+ghost use Rattle.record_following.specs.RecordCursor.{CursorEnds};
 
 /// A moment after calls that goes on by others is one after those and these.
 pub fn moments_go_on()
@@ -9,6 +9,6 @@ pub fn moments_go_on()
 {}
 
 /// If nothing is left of a record, all its calls were done.
-pub fn progress_ends()
-    ensures law { ProgressEnds }
+pub fn cursor_ends()
+    ensures law { CursorEnds }
 {}

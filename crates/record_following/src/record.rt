@@ -3,7 +3,7 @@ ghost use Rattle.std.specs.Prelude.{◌≡◌, length, IfOk};
 
 use crate::fault::WhyFault;
 use crate::line::{RecordedLine, read_line};
-use line_words::line_as_str;
+use lab_words::line_as_str;
 use plan_checker::{AcceptedPlan, check, read_plan};
 use script_text::{NumberedLine, count_lines, divide_at_plan_end, is_passed_over, numbered_lines};
 use std::alloc::Global;

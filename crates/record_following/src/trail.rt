@@ -1,6 +1,6 @@
 //! The last events of a domain, which can be done again. Only that shows what a node did right before a fault.
 
-use crate::past::ZerosPast;
+use crate::notes::ZerosNotes;
 use bootstrap::Node;
 use domain_core::{Event, Moment, NoMemory};
 use farm_records::RecordedCall;
@@ -61,7 +61,7 @@ struct Search {
     workspace: u32,
     // How many of the node's next Steps are done in bursts. After them each Step is done by itself.
     skipped: u64,
-    found: Option<ZerosPast>,
+    found: Option<ZerosNotes>,
 }
 
 // How many zeros lie right below an address.
@@ -99,7 +99,7 @@ impl Search {
         }
         match after {
             Some((cpu, 0)) if cpu.workspace == self.workspace && cpu.operand == 0 => {
-                self.found = Some(ZerosPast {
+                self.found = Some(ZerosNotes {
                     registers,
                     byte,
                     first: cpu.instruction,
@@ -212,7 +212,7 @@ impl Trail {
         number: u8,
         node: &Node,
         registers: Cpu,
-    ) -> Result<Option<ZerosPast>, NoMemory> {
+    ) -> Result<Option<ZerosNotes>, NoMemory> {
         let zeros = zeros_below(node.memory(), registers.instruction);
         let first = match (&self.older, &self.newer) {
             (Some(part), _) | (None, Some(part)) => part,

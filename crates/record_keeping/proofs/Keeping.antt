@@ -15,7 +15,7 @@ use Rattle.record_keeping.specs.Writing.{stored_text}
 use Rattle.record_keeping.proofs.Counting.{count_twice, count_stays}
 use Rattle.record_keeping.proofs.Pieces.{both_gained, all_end_with_room, text_of_both, commands_of_both}
 
--- pieces, and pieces behind them
+-- pieces, and pieces after them
 pub both_kept : JournalsAddUp
     → {S : Type 0} {g : _} (whole : S → Option (List ℕ)) (plan : List DomainData) (number : ℕ) (more : Bool)
     (old between new : DomainRecord S g) → vec_capacity between.room ≡ vec_capacity old.room
@@ -75,7 +75,7 @@ stays_whole None after same = tt
 stays_whole (Some xs) after same =
     subst (λ (text : Option (List ℕ)). Appends (Some xs) text []) (sym same) (sym (append-nil xs))
 
--- a record of which nothing more is whole kept no pieces
+-- a record with nothing more that is whole kept no pieces
 pub nothing_kept : {S : Type 0} {g : _} (whole : S → Option (List ℕ)) (plan : List DomainData) (number : ℕ)
     (old new : DomainRecord S g) → KeepsNothing whole old new → KeepsPieces whole plan number true old new
 nothing_kept whole plan number old new none = record {
@@ -86,7 +86,7 @@ nothing_kept whole plan number old new none = record {
   commands = none.commands ∙ count_stays old.commands 0 old.in_range refl;
 }
 
--- pieces behind the mark of a record that owes no other
+-- pieces after the mark of a record that owes no other
 pub kept_behind : {S : Type 0} {g : _} (whole : S → Option (List ℕ)) (plan : List DomainData) (number : ℕ) (more : Bool)
     (old new : DomainRecord S g) → new.owes_next ≡ false → KeepsPieces whole plan number more old new
     → KeepsGained whole plan number false more old new

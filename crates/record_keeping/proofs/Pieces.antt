@@ -34,7 +34,7 @@ entries_of_both : (before later : List JournalPiece)
     → entries_of (before ++ later) ≡ entries_of before ++ entries_of later
 entries_of_both before later = flat_map-append (λ (piece : JournalPiece). piece.entries) before later
 
--- the text of pieces, and of pieces behind them
+-- the text of pieces, and of pieces after them
 pub text_of_both : (before later : List JournalPiece)
     → record_text (lines_of (entries_of (before ++ later)))
     ≡ record_text (lines_of (entries_of before)) ++ record_text (lines_of (entries_of later))
@@ -68,7 +68,7 @@ counted_one piece room before old new counts same held =
     counts ∙ ap (λ (n : ℕ). saturated (n + commands_among room)) same
     ∙ ap (λ (entries : List Entry). saturated (old + commands_among entries)) (held ∙ sym (append-nil piece.entries))
 
--- what was copied to empty room, of which there is as much as before
+-- what was copied to empty room, which is as much as before
 pub one_gained : (plan : List DomainData) (number places : ℕ) (from to : Mark) (held room : ℕ) (old new : List Entry)
     → old ≡ [] → held ≡ 0 → room ≡ places → GainsCopies plan number from to old new held room
     → AreGained plan number places from (record { entries = new; reached = to } ∷ []) to

@@ -50,7 +50,7 @@ no_poke_of place at stored none (command.Look node) asked = asked
 abbrev pub IsNoWord : List ℕ → Unread → Type 0
 IsNoWord word unread = (f : LineFault) → unread ≡ Faulty f → (f ≡ Hex) × ((value : ℕ) → ¬ IsWord word value)
 
--- if the address of a peek isn't read, its arguments are wrong by the fault that is told
+-- if the address of a peek isn't read, its arguments are wrong by the fault that is given
 pub peek_refused : (verb : Verb) (place at : List ℕ) (host : ℕ) (unread : Unread)
     → verb ≡ Peek → IsDecimal place host → IsNoWord at unread → (f : LineFault) → unread ≡ Faulty f
     → IsArgumentFault verb (place ∷ at ∷ []) f

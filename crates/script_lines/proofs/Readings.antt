@@ -1,5 +1,5 @@
 -- What the reading of a word and of a script rests on: the clauses of `read_script`, the clause `fault` of
--- `parse_place`, and the contract of `user_named`.
+-- `parse_target`, and the contract of `user_named`.
 use Rattle.std.proofs.Common.{◌≡◌, ◌+◌, ◌<◌, ◌++◌, ℕ, List, Bool, cond, [], ◌∷◌, length, map, sym, ap, ◌∙◌}
 use Rattle.std.proofs.Common.{true, false, not, inl, inr, subst, append-nil, append_assoc, length-append, arith}
 use Rattle.std.specs.Prelude.{slice_get, Option, Some, None, All}
@@ -56,7 +56,7 @@ spelling_is_utf8 (digit ∷ digits) bytes spells =
       | inr past ↦ omega (arith, get_or_past word i 0 past)
     ])
 
--- the script up to this rest of its text asks just this, in so many lines
+-- the script up to this rest of its text asks exactly this, in that many lines
 pub record IsReadTo (names : List (List ℕ)) (text rest : List ℕ) (asked : List ScriptLine) (count : ℕ) : Type 0 where
   pub before : List (List ℕ)
   pub parts : lines text ≡ before ++ lines rest
@@ -74,7 +74,7 @@ zip_more names [] (k ∷ asked) line l all one = absurd all
 zip_more names (x ∷ lines) [] line l all one = absurd all
 zip_more names (x ∷ lines) (k ∷ asked) line l all one = (all.0, zip_more names lines asked line l all.1 one)
 
--- if a script is read up to a line that asks nothing, it is read up to the line behind, and asks no more
+-- if a script is read up to a line that asks nothing, it is read up to the line after, and asks no more
 pub read_past : (names : List (List ℕ)) (text rest after : List ℕ) (asked : List ScriptLine) (count : ℕ)
     → IsReadTo names text rest asked count → 0 < length rest → asks_nothing (line_of rest) ≡ true
     → after ≡ after_line rest
@@ -95,7 +95,7 @@ read_past names text rest after asked count read some nothing is =
       counted = omega (arith, read.counted, length-append before (line_of rest ∷ []));
     }
 
--- if it is read up to a line that asks something, it is read up to the line behind, and asks that too
+-- if it is read up to a line that asks something, it is read up to the line after, and asks that too
 pub read_more : (names : List (List ℕ)) (text rest after : List ℕ)
     (asked more : List ScriptLine) (l : ScriptLine) (count : ℕ)
     → IsReadTo names text rest asked count → 0 < length rest → asks_nothing (line_of rest) ≡ false

@@ -25,19 +25,19 @@ Requests Look (place ∷ []) (command.Look node) = IsDecimal place node
 Requests verb words c = ⊥
 
 -- a word spells the number of a host or node
-abbrev pub IsPlaceNumber : List ℕ → Type 0
-IsPlaceNumber word = (number : ℕ) × IsDecimal word number
+abbrev pub IsTargetNumber : List ℕ → Type 0
+IsTargetNumber word = (number : ℕ) × IsDecimal word number
 
 -- a verb has as many words after it as it takes, and the number of a host or node is one
 abbrev pub HasArguments : Verb → List (List ℕ) → Type 0
 HasArguments Config (digits ∷ []) = ⊤
-HasArguments Write (place ∷ digits ∷ []) = IsPlaceNumber place
-HasArguments Boot (place ∷ digits ∷ []) = IsPlaceNumber place
-HasArguments Poke (place ∷ at ∷ stored ∷ []) = IsPlaceNumber place
-HasArguments Peek (place ∷ at ∷ []) = IsPlaceNumber place
-HasArguments Collect (place ∷ []) = IsPlaceNumber place
-HasArguments Reset (place ∷ []) = IsPlaceNumber place
-HasArguments Look (place ∷ []) = IsPlaceNumber place
+HasArguments Write (place ∷ digits ∷ []) = IsTargetNumber place
+HasArguments Boot (place ∷ digits ∷ []) = IsTargetNumber place
+HasArguments Poke (place ∷ at ∷ stored ∷ []) = IsTargetNumber place
+HasArguments Peek (place ∷ at ∷ []) = IsTargetNumber place
+HasArguments Collect (place ∷ []) = IsTargetNumber place
+HasArguments Reset (place ∷ []) = IsTargetNumber place
+HasArguments Look (place ∷ []) = IsTargetNumber place
 HasArguments verb words = ⊥
 
 -- the name of a user, by its place among all names

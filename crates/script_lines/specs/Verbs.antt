@@ -28,12 +28,12 @@ verb_of (command.Reset node) = Reset
 verb_of (command.Look node) = Look
 
 -- the number of the host or node that a command asks, if it asks one
-abbrev pub place_asked : Command → Option ℕ
-place_asked (command.Config bytes) = None
-place_asked (command.Write host bytes) = Some host
-place_asked (command.Boot host code) = Some host
-place_asked (command.Poke host address word) = Some host
-place_asked (command.Peek host address) = Some host
-place_asked (command.Collect host) = Some host
-place_asked (command.Reset node) = Some node
-place_asked (command.Look node) = Some node
+abbrev pub target_asked : Command → Option ℕ
+target_asked (command.Config bytes) = None
+target_asked (command.Write host bytes) = Some host
+target_asked (command.Boot host code) = Some host
+target_asked (command.Poke host address word) = Some host
+target_asked (command.Peek host address) = Some host
+target_asked (command.Collect host) = Some host
+target_asked (command.Reset node) = Some node
+target_asked (command.Look node) = Some node

@@ -1,6 +1,6 @@
 //! What a script line asks.
 ghost use Rattle.std.specs.Prelude.{◌≡◌};
-ghost use Rattle.script_lines.specs.Verbs.{verb_of, place_asked};
+ghost use Rattle.script_lines.specs.Verbs.{verb_of, target_asked};
 
 use crate::verb::Verb;
 
@@ -65,8 +65,8 @@ impl Command {
     }
 
     /// The number of the host or node that it asks, if it asks one.
-    pub fn place(&self) -> Option<u8>
-        ensures { result ≡ place_asked self.now }
+    pub fn target(&self) -> Option<u8>
+        ensures { result ≡ target_asked self.now }
     {
         match self {
             Command::Config(_) => None,

@@ -12,7 +12,7 @@ mod words;
 pub use command::Command;
 pub use fault::{LineFault, ScriptFault, Unread};
 pub use line::{parse_request, user_named};
-pub use numbers::parse_place;
+pub use numbers::parse_target;
 pub use script::{ScriptLine, read_script};
 pub use verb::Verb;
 pub use words::LineWords;

@@ -9,7 +9,7 @@ ghost use Rattle.script_lines.specs.Words.{words_between};
 
 use crate::command::Command;
 use crate::fault::{LineFault, Unread};
-use crate::numbers::{parse_bytes, parse_place, parse_word};
+use crate::numbers::{parse_bytes, parse_target, parse_word};
 use crate::script::ScriptLine;
 use crate::verb::Verb;
 use crate::words::LineWords;
@@ -23,13 +23,13 @@ fn with_one(alloc: Global, verb: Verb, word: &[u8]) -> Result<Command, Unread>
     match verb {
         Verb::Config => Ok(Command::Config(parse_bytes(alloc, word)?)),
         Verb::Collect => Ok(Command::Collect {
-            host: parse_place(word)?,
+            host: parse_target(word)?,
         }),
         Verb::Reset => Ok(Command::Reset {
-            node: parse_place(word)?,
+            node: parse_target(word)?,
         }),
         Verb::Look => Ok(Command::Look {
-            node: parse_place(word)?,
+            node: parse_target(word)?,
         }),
         Verb::Write | Verb::Boot | Verb::Poke | Verb::Peek => {
             Err(Unread::Faulty(LineFault::Args))
@@ -45,15 +45,15 @@ fn with_two(alloc: Global, verb: Verb, place: &[u8], digits: &[u8]) -> Result<Co
 {
     match verb {
         Verb::Write => Ok(Command::Write {
-            host: parse_place(place)?,
+            host: parse_target(place)?,
             bytes: parse_bytes(alloc, digits)?,
         }),
         Verb::Boot => Ok(Command::Boot {
-            host: parse_place(place)?,
+            host: parse_target(place)?,
             code: parse_bytes(alloc, digits)?,
         }),
         Verb::Peek => Ok(Command::Peek {
-            host: parse_place(place)?,
+            host: parse_target(place)?,
             address: parse_word(alloc, digits)?,
         }),
         Verb::Config | Verb::Poke | Verb::Collect | Verb::Reset | Verb::Look => {
@@ -78,7 +78,7 @@ fn with_three(
         return Err(Unread::Faulty(LineFault::Args));
     }
     Ok(Command::Poke {
-        host: parse_place(place)?,
+        host: parse_target(place)?,
         address: parse_word(alloc, address)?,
         word: parse_word(alloc, word)?,
     })

@@ -3,7 +3,7 @@ ghost use Rattle.std.specs.Prelude.{◌≡◌, ℕ, List, IfOk, IfErr};
 ghost use Rattle.script_lines.specs.declared.fault.LineFault.{LineFault as SpecLineFault};
 ghost use Rattle.script_lines.specs.declared.fault.LineFault.TheVariants.{Args, Hex};
 ghost use Rattle.script_lines.specs.declared.fault.Unread.TheVariants.{Faulty};
-ghost use Rattle.script_lines.specs.Lines.{IsPlaceNumber};
+ghost use Rattle.script_lines.specs.Lines.{IsTargetNumber};
 ghost use Rattle.script_lines.specs.Words.{IsDecimal, IsWord};
 ghost use Rattle.script_text.specs.Hexadecimal.{Spells};
 
@@ -12,9 +12,9 @@ use script_text::{HexFault, bytes_of};
 use std::alloc::Global;
 
 /// The number of a host or node that decimal digits spell, at most 255.
-pub fn parse_place(word: &[u8]) -> Result<u8, Unread>
+pub fn parse_target(word: &[u8]) -> Result<u8, Unread>
     ensures number { IfOk result (IsDecimal word.now) }
-    ensures fault { IfErr result (λ u. (u ≡ Faulty Args) × ¬ IsPlaceNumber word.now) }
+    ensures fault { IfErr result (λ u. (u ≡ Faulty Args) × ¬ IsTargetNumber word.now) }
 {
     if word.first() == Some(&b'+') {
         return Err(Unread::Faulty(LineFault::Args));

@@ -12,7 +12,7 @@ use Rattle.domain_core.specs.declared.event.Refusal.TheVariants.{NoSuch, Journal
 use Rattle.domain_core.specs.Domain.{DomainValue, UnlessNoMemory}
 use Rattle.domain_core.specs.PrivateFarm.{Answer, Call}
 use Rattle.whole_farm.specs.Laws.{RunsAddUp}
-use Rattle.domain_core.specs.declared.event.Told.{Told}
+use Rattle.domain_core.specs.declared.event.AnsweredCommand.{AnsweredCommand}
 use Rattle.answer_text.specs.Results.{replies_told}
 use Rattle.farm_replay.specs.Runs.{HaveRun, HasGoneOn}
 use Rattle.script_replay.proofs.Runs.{no_calls, more_calls, gone_nowhere}
@@ -25,40 +25,44 @@ use Rattle.script_replay.specs.Lines.{call_of_line, calls_of_line, answers_told,
 use Rattle.script_replay.specs.Lines.{IsStoppedBy, IsAtEnd, HasStopped, is_peek, GoesOnIf, HasEndedOn, AsksWhole}
 
 -- an event with its reply
-abbrev pub told_of : Event → Reply → Told
+abbrev pub told_of : Event → Reply → AnsweredCommand
 told_of event reply = record { event = event; reply = reply }
 
-asked_more : (next : List Told → Option Event) (before told : List Told) (other_told : Told)
+asked_more : (next : List AnsweredCommand → Option Event) (before told : List AnsweredCommand)
+    (other_told : AnsweredCommand)
     → AreAsked next before told → next (before ++ told) ≡ Some other_told.event
     → AreAsked next before (told ++ other_told ∷ [])
 asked_more next before [] other_told given same = (
-  subst (λ (b : List Told). next b ≡ Some other_told.event)
+  subst (λ (b : List AnsweredCommand). next b ≡ Some other_told.event)
       (append-nil before) same,
   tt,
 )
 asked_more next before (u ∷ told) other_told given same = (
   given.0,
   asked_more next (before ++ u ∷ []) told other_told given.1
-      (subst (λ (b : List Told). next b ≡ Some other_told.event) (sym (append_assoc before (u ∷ []) told)) same),
+      (subst (λ (b : List AnsweredCommand). next b ≡ Some other_told.event)
+      (sym (append_assoc before (u ∷ []) told)) same),
 )
 
-asked_append : (next : List Told → Option Event) (before xs ys : List Told)
+asked_append : (next : List AnsweredCommand → Option Event) (before xs ys : List AnsweredCommand)
     → AreAsked next before xs → AreAsked next (before ++ xs) ys
     → AreAsked next before (xs ++ ys)
-asked_append next before [] ys some more = subst (λ (b : List Told). AreAsked next b ys) (append-nil before) more
+asked_append next before [] ys some more = subst (λ (b : List AnsweredCommand). AreAsked next b ys)
+    (append-nil before) more
 asked_append next before (x ∷ xs) ys some more = (
   some.0,
   asked_append next (before ++ x ∷ []) xs ys some.1
-      (subst (λ (b : List Told). AreAsked next b ys) (sym (append_assoc before (x ∷ []) xs)) more),
+      (subst (λ (b : List AnsweredCommand). AreAsked next b ys) (sym (append_assoc before (x ∷ []) xs)) more),
 )
 
 -- before anything is asked
-pub asks_nothing : (l : UserLine) (told : List Told) (domains : List DomainValue) → AsksOn l told told domains domains
+pub asks_nothing : (l : UserLine) (told : List AnsweredCommand) (domains : List DomainValue)
+    → AsksOn l told told domains domains
 asks_nothing l told domains = record { more = []; list = sym (append-nil told); asked = tt; run = no_calls domains }
 
 -- one event more
 pub asks_more : RunsAddUp
-    → (l : UserLine) (before told after : List Told) (domains other_domains third_domains : List DomainValue)
+    → (l : UserLine) (before told after : List AnsweredCommand) (domains other_domains third_domains : List DomainValue)
     (e : Event) (r : Reply)
     → AsksOn l before told domains other_domains → next_event l.command told ≡ Some e → after ≡ told ++ told_of e r ∷ []
     → HaveRun other_domains third_domains (call_of_line l e ∷ []) (Ok r ∷ [])
@@ -66,18 +70,18 @@ pub asks_more : RunsAddUp
 asks_more law l before told after domains other_domains third_domains e r was same is one =
     let t = told_of e r in
     let calls : calls_of_line l (was.more ++ t ∷ []) ≡ calls_of_line l was.more ++ call_of_line l e ∷ [] =
-    map-append (λ (t : Told). call_of_line l t.event) was.more (t ∷ []) in
+    map-append (λ (t : AnsweredCommand). call_of_line l t.event) was.more (t ∷ []) in
     let answers : answers_told (was.more ++ t ∷ []) ≡ answers_told was.more ++ Ok r ∷ [] =
-    map-append (λ (t : Told). let answer : Answer = Ok t.reply in answer) was.more (t ∷ []) in
+    map-append (λ (t : AnsweredCommand). let answer : Answer = Ok t.reply in answer) was.more (t ∷ []) in
     let both =
     more_calls law domains other_domains third_domains (calls_of_line l was.more) (call_of_line l e ∷ [])
     (answers_told was.more) (Ok r ∷ []) was.run one in
     record {
       more = was.more ++ t ∷ [];
-      list = is ∙ ap (λ (xs : List Told). xs ++ t ∷ []) was.list ∙ append_assoc before was.more (t ∷ []);
+      list = is ∙ ap (λ (xs : List AnsweredCommand). xs ++ t ∷ []) was.list ∙ append_assoc before was.more (t ∷ []);
       asked =
           asked_more (next_event l.command) before was.more t was.asked
-          (subst (λ (xs : List Told). next_event l.command xs ≡ Some e) was.list same);
+          (subst (λ (xs : List AnsweredCommand). next_event l.command xs ≡ Some e) was.list same);
       run = subst (λ (asked : List (ℕ × Call)). HaveRun domains third_domains asked
           (answers_told (was.more ++ t ∷ []))) (sym calls)
           (subst (λ (told : List Answer). HaveRun domains third_domains
@@ -86,15 +90,15 @@ asks_more law l before told after domains other_domains third_domains e r was sa
     }
 
 -- an event that isn't a read adds no reply to a read
-pub still_unread : (before told after : List Told) (e : Event) (r : Reply) (stops : Bool)
+pub still_unread : (before told after : List AnsweredCommand) (e : Event) (r : Reply) (stops : Bool)
     → (stops ≡ true → read_replies before ≡ [] → read_replies told ≡ [])
     → after ≡ told ++ told_of e r ∷ [] → (stops ≡ true → is_read e ≡ false)
     → stops ≡ true → read_replies before ≡ [] → read_replies after ≡ []
 still_unread before told after e r stops was is other stop none =
     ap read_replies is
-    ∙ ap replies_told (filter-append (λ (t : Told). is_read t.event) told (told_of e r ∷ []))
-    ∙ map-append (λ (t : Told). t.reply) (filter (λ (t : Told). is_read t.event) told)
-    (filter (λ (t : Told). is_read t.event) (told_of e r ∷ []))
+    ∙ ap replies_told (filter-append (λ (t : AnsweredCommand). is_read t.event) told (told_of e r ∷ []))
+    ∙ map-append (λ (t : AnsweredCommand). t.reply) (filter (λ (t : AnsweredCommand). is_read t.event) told)
+    (filter (λ (t : AnsweredCommand). is_read t.event) (told_of e r ∷ []))
     ∙ (λ i. was stop none i ++ replies_told (one (is_read e) (other stop) i))
   where
     one : (reads : Bool) → reads ≡ false → (if reads then told_of e r ∷ [] else []) ≡ []
@@ -103,17 +107,19 @@ still_unread before told after e r stops was is other stop none =
 
 -- ---- how it stops
 
--- a line of which nothing more is asked is at its end, whether or not it stops before it reads
-pub at_end : (stops : Bool) (l : UserLine) (told : List Told) → next_event l.command told ≡ None → IsAtEnd stops l told
+-- a line that asks nothing more is at its end, whether or not it stops before it reads
+pub at_end : (stops : Bool) (l : UserLine) (told : List AnsweredCommand) → next_event l.command told ≡ None
+    → IsAtEnd stops l told
 at_end true l told none = tt
 at_end false l told none = none
 
 -- a line that stops before it reads may stop anywhere
-pub before_reads : (stops : Bool) (l : UserLine) (told : List Told) → stops ≡ true → IsAtEnd stops l told
+pub before_reads : (stops : Bool) (l : UserLine) (told : List AnsweredCommand) → stops ≡ true → IsAtEnd stops l told
 before_reads stops l told is = subst (λ (s : Bool). IsAtEnd s l told) (sym is) tt
 
 -- what is asked next is refused, which changes nothing
-pub refused_next : (l : UserLine) (told : List Told) (old new : List DomainValue) (e : Event) (refusal : Refusal)
+pub refused_next : (l : UserLine) (told : List AnsweredCommand) (old new : List DomainValue) (e : Event)
+    (refusal : Refusal)
     → next_event l.command told ≡ Some e → new ≡ old
     → UnlessNoMemory (Err refusal) (HaveRun old new (call_of_line l e ∷ []) (Err refusal ∷ []))
     → IsStoppedBy l told new refusal
@@ -134,8 +140,9 @@ refused_next l told old new e JournalFull equal same run =
     }
 refused_next l told old new e NoMemory equal same run = tt
 
--- what was asked stands if the domains stay then
-pub asks_still : (l : UserLine) (before after : List Told) (domains other_domains third_domains : List DomainValue)
+-- what was asked holds if the domains stay then
+pub asks_still : (l : UserLine) (before after : List AnsweredCommand)
+    (domains other_domains third_domains : List DomainValue)
     → AsksOn l before after domains other_domains → third_domains ≡ other_domains
     → AsksOn l before after domains third_domains
 asks_still l before after domains other_domains third_domains asks same =
@@ -147,19 +154,21 @@ stays_if : (goes : Bool) (domain : ℕ) (domains : List DomainValue) → GoesOnI
 stays_if true domain domains = gone_nowhere domain domains
 stays_if false domain domains = refl
 
-ended : {A : Type 0} (l : UserLine) (told : List Told) (domains : List DomainValue) (outcome : Result A Refusal)
+ended : {A : Type 0} (l : UserLine) (told : List AnsweredCommand) (domains : List DomainValue)
+    (outcome : Result A Refusal)
     → HasStopped false l told domains outcome
     → HasEndedOn l told domains outcome
 ended l told domains (Ok a) stopped = stopped
 ended l told domains (Err refusal) stopped = inl stopped
 
 -- a line of one part
-pub one_part : {A : Type 0} (l : UserLine) (none told : List Told)
+pub one_part : {A : Type 0} (l : UserLine) (none told : List AnsweredCommand)
     (old new : List DomainValue) (outcome : Result A Refusal)
     → none ≡ [] → AsksOn l none told old new → HasEndedOn l told new outcome
     → AsksWhole l told old new outcome
 one_part l none told old new outcome is asks over =
-    let own : AsksOn l [] told old new = subst (λ (before : List Told). AsksOn l before told old new) is asks in
+    let own : AsksOn l [] told old new =
+    subst (λ (before : List AnsweredCommand). AsksOn l before told old new) is asks in
     record {
       first = own.more;
       second = [];
@@ -174,7 +183,7 @@ one_part l none told old new outcome is asks over =
     }
 
 -- the same of a line that stopped as `ask_on` does
-pub one_part_ended : {A : Type 0} (l : UserLine) (none told : List Told)
+pub one_part_ended : {A : Type 0} (l : UserLine) (none told : List AnsweredCommand)
     (old new : List DomainValue) (outcome : Result A Refusal)
     → none ≡ [] → AsksOn l none told old new → HasStopped false l told new outcome
     → AsksWhole l told old new outcome
@@ -182,7 +191,7 @@ one_part_ended l none told old new outcome is asks stopped =
     one_part l none told old new outcome is asks (ended l told new outcome stopped)
 
 -- the same of a line that was refused
-pub one_part_refused : {A : Type 0} (l : UserLine) (none told : List Told)
+pub one_part_refused : {A : Type 0} (l : UserLine) (none told : List AnsweredCommand)
     (old new : List DomainValue) (refusal : Refusal)
     → none ≡ []
     → AsksOn l none told old new
@@ -195,7 +204,7 @@ goes_if : (goes : Bool) (domain : ℕ) (old new : List DomainValue) → goes ≡
 goes_if goes domain old new is gone = subst (λ (g : Bool). GoesOnIf g domain old new) (sym is) gone
 
 -- a peek whose domain can't go on
-unsettled : {A : Type 0} (l : UserLine) (none told : List Told)
+unsettled : {A : Type 0} (l : UserLine) (none told : List AnsweredCommand)
     (old mid new : List DomainValue) (refusal : Refusal)
     → none ≡ [] → is_peek l.command ≡ true
     → AsksOn l none told old mid
@@ -203,7 +212,8 @@ unsettled : {A : Type 0} (l : UserLine) (none told : List Told)
     → IsStoppedBy l told new refusal ⊎ IsUnsettled l.command told refusal
     → AsksWhole {A = A} l told old new (Err refusal)
 unsettled l none told old mid new refusal is peeks asks gone over =
-    let own : AsksOn l [] told old mid = subst (λ (before : List Told). AsksOn l before told old mid) is asks in
+    let own : AsksOn l [] told old mid =
+    subst (λ (before : List AnsweredCommand). AsksOn l before told old mid) is asks in
     record {
       first = own.more;
       second = [];
@@ -218,14 +228,16 @@ unsettled l none told old mid new refusal is peeks asks gone over =
     }
 
 -- a peek of two parts
-pub two_parts : {A : Type 0} (l : UserLine) (none half told : List Told)
+pub two_parts : {A : Type 0} (l : UserLine) (none half told : List AnsweredCommand)
     (old mid on new : List DomainValue) (outcome : Result A Refusal)
     → none ≡ [] → is_peek l.command ≡ true → AsksOn l none half old mid → HasGoneOn l.domain mid on
     → AsksOn l half told on new → HasStopped false l told new outcome
     → AsksWhole l told old new outcome
 two_parts l none half told old mid on new outcome is peeks asks gone rest stopped =
-    let own : AsksOn l [] half old mid = subst (λ (before : List Told). AsksOn l before half old mid) is asks in
-    let list : told ≡ own.more ++ rest.more = rest.list ∙ ap (λ (xs : List Told). xs ++ rest.more) own.list in
+    let own : AsksOn l [] half old mid =
+    subst (λ (before : List AnsweredCommand). AsksOn l before half old mid) is asks in
+    let list : told ≡ own.more ++ rest.more =
+    rest.list ∙ ap (λ (xs : List AnsweredCommand). xs ++ rest.more) own.list in
     record {
       first = own.more;
       second = rest.more;
@@ -234,7 +246,7 @@ two_parts l none half told old mid on new outcome is peeks asks gone rest stoppe
       list = list;
       asked = subst (AreAsked (next_event l.command) []) (sym list)
           (asked_append (next_event l.command) [] own.more rest.more own.asked
-          (subst (λ (b : List Told). AreAsked (next_event l.command) b rest.more) own.list rest.asked));
+          (subst (λ (b : List AnsweredCommand). AreAsked (next_event l.command) b rest.more) own.list rest.asked));
       begun = own.run;
       between = goes_if (is_peek l.command) l.domain mid on peeks gone;
       finished = rest.run;
@@ -244,13 +256,14 @@ two_parts l none half told old mid on new outcome is peeks asks gone rest stoppe
 -- ---- the same of results that are known by equations
 
 -- a line stops at its end if the code finds no next event
-pub stops_at_end : (stops : Bool) (l : UserLine) (told : List Told) (event : Option Event)
+pub stops_at_end : (stops : Bool) (l : UserLine) (told : List AnsweredCommand) (event : Option Event)
     → event ≡ next_event l.command told → event ≡ None
     → IsAtEnd stops l told
 stops_at_end stops l told event next none = at_end stops l told (sym next ∙ none)
 
 -- a line stops if the farm refuses the event that the code finds
-pub stops_refused : (l : UserLine) (told : List Told) (old new : List DomainValue) (event : Option Event) (e : Event)
+pub stops_refused : (l : UserLine) (told : List AnsweredCommand) (old new : List DomainValue) (event : Option Event)
+    (e : Event)
     (answer : Answer) (refusal : Refusal)
     → event ≡ next_event l.command told → event ≡ Some e → answer ≡ Err refusal → OnErr answer (new ≡ old)
     → UnlessNoMemory answer (HaveRun old new (call_of_line l e ∷ []) (answer ∷ []))
@@ -268,7 +281,7 @@ stops_refused l told old new event e (Err x) refusal next is refused same run =
     same_error x y same = ap error_in same
 
 -- a peek that is refused before it reads asks all that it asks
-pub peeks_refused : {A B : Type 0} (l : UserLine) (none told : List Told) (old new : List DomainValue)
+pub peeks_refused : {A B : Type 0} (l : UserLine) (none told : List AnsweredCommand) (old new : List DomainValue)
     (outcome : Result B Refusal) (stops : Bool) (refusal : Refusal)
     → none ≡ [] → outcome ≡ Err refusal
     → AsksOn l none told old new
@@ -282,7 +295,7 @@ peeks_refused {A} {B} l none told old new (Err x) stops refusal is refused asks 
     error_in (Err refusal) = refusal
 
 -- a peek that hasn't read yet may end by a full journal
-full_peek : (command : Command) (told : List Told) → is_peek command ≡ true → read_replies told ≡ []
+full_peek : (command : Command) (told : List AnsweredCommand) → is_peek command ≡ true → read_replies told ≡ []
     → IsUnsettled command told JournalFull
 full_peek (Peek host address) told peeks unread = unread
 full_peek (Config bytes) told peeks unread = absurd cc
@@ -294,7 +307,7 @@ full_peek (Reset node) told peeks unread = absurd cc
 full_peek (Look node) told peeks unread = absurd cc
 
 -- a peek whose domain can't settle for a full journal asks all that it asks
-pub peeks_full : {A : Type 0} (l : UserLine) (none told : List Told) (old mid new : List DomainValue)
+pub peeks_full : {A : Type 0} (l : UserLine) (none told : List AnsweredCommand) (old mid new : List DomainValue)
     (stops peeks : Bool)
     → none ≡ [] → peeks ≡ is_peek l.command
     → peeks ≡ true → stops ≡ true
@@ -305,7 +318,8 @@ peeks_full l none told old mid new stops peeks is peek it stop unread asks gone 
     (inr (full_peek l.command told (sym peek ∙ it) (unread stop (ap read_replies is))))
 
 -- a peek whose domain can't settle because memory ran out asks all that it asks
-pub peeks_out_of_memory : {A : Type 0} (l : UserLine) (none told : List Told) (old mid new : List DomainValue)
+pub peeks_out_of_memory : {A : Type 0} (l : UserLine) (none told : List AnsweredCommand)
+    (old mid new : List DomainValue)
     (peeks : Bool)
     → none ≡ [] → peeks ≡ is_peek l.command
     → peeks ≡ true
@@ -314,7 +328,8 @@ peeks_out_of_memory l none told old mid new peeks is peek it asks gone =
     unsettled l none told old mid new NoMemory is (sym peek ∙ it) asks gone (inl tt)
 
 -- a peek that is asked in two parts asks all that it asks
-pub peeks_whole : {A : Type 0} (l : UserLine) (none half told : List Told) (old mid on new : List DomainValue)
+pub peeks_whole : {A : Type 0} (l : UserLine) (none half told : List AnsweredCommand)
+    (old mid on new : List DomainValue)
     (outcome : Result A Refusal) (peeks : Bool)
     → none ≡ [] → peeks ≡ is_peek l.command → peeks ≡ true → AsksOn l none half old mid → HasGoneOn l.domain mid on
     → AsksOn l half told on new → HasStopped false l told new outcome

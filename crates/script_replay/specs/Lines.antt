@@ -7,7 +7,7 @@ use Rattle.domain_core.specs.declared.event.Refusal.TheVariants.{NoMemory}
 use Rattle.domain_core.specs.Domain.{DomainValue}
 use Rattle.domain_core.specs.PrivateFarm.{Answer, Call}
 use Rattle.whole_farm.specs.Places.{Place}
-use Rattle.domain_core.specs.declared.event.Told.{Told}
+use Rattle.domain_core.specs.declared.event.AnsweredCommand.{AnsweredCommand}
 use Rattle.event_text.specs.declared.request.RepeatedRequest.{RepeatedRequest}
 use Rattle.farm_replay.specs.Plain.{asked_by}
 use Rattle.farm_replay.specs.Runs.{HaveRun, HasGoneOn, IsOpenedFarm, ShowsAsked}
@@ -27,39 +27,39 @@ abbrev pub call_of_line : UserLine → Event → ℕ × Call
 call_of_line l event = (l.domain, record { by = User l.user; event = event })
 
 -- events of a line's user, as calls
-abbrev pub calls_of_line : UserLine → List Told → List (ℕ × Call)
+abbrev pub calls_of_line : UserLine → List AnsweredCommand → List (ℕ × Call)
 calls_of_line l told = map (λ t. call_of_line l t.event) told
 
 -- their replies, as the farm's answers
-abbrev pub answers_told : List Told → List Answer
+abbrev pub answers_told : List AnsweredCommand → List Answer
 answers_told told = map (λ t. Ok t.reply) told
 
 -- the farm refuses what the line asks next, and nothing changes
-pub record IsRefusedNext (l : UserLine) (told : List Told) (domains : List DomainValue) (refusal : Refusal)
+pub record IsRefusedNext (l : UserLine) (told : List AnsweredCommand) (domains : List DomainValue) (refusal : Refusal)
     : Type 0 where
   pub event : Event
   pub next : next_event l.command told ≡ Some event
   pub run : HaveRun domains domains (call_of_line l event ∷ []) (Err refusal ∷ [])
 
 -- more of what a line asks is asked, one event after another, and each is answered by the farm
-pub record AsksOn (l : UserLine) (before after : List Told) (old new : List DomainValue) : Type 0 where
-  pub more : List Told
+pub record AsksOn (l : UserLine) (before after : List AnsweredCommand) (old new : List DomainValue) : Type 0 where
+  pub more : List AnsweredCommand
   pub list : after ≡ before ++ more
   pub asked : AreAsked (next_event l.command) before more
   pub run : HaveRun old new (calls_of_line l more) (answers_told more)
 
 -- a refusal ends it. Nothing is said of NoMemory
-abbrev pub IsStoppedBy : UserLine → List Told → List DomainValue → Refusal → Type 0
+abbrev pub IsStoppedBy : UserLine → List AnsweredCommand → List DomainValue → Refusal → Type 0
 IsStoppedBy l told domains NoMemory = ⊤
 IsStoppedBy l told domains refusal = IsRefusedNext l told domains refusal
 
 -- nothing more is asked, unless it stops before it reads
-abbrev pub IsAtEnd : Bool → UserLine → List Told → Type 0
+abbrev pub IsAtEnd : Bool → UserLine → List AnsweredCommand → Type 0
 IsAtEnd true l told = ⊤
 IsAtEnd false l told = next_event l.command told ≡ None
 
 -- how that ends
-abbrev pub HasStopped : {A : Type 0} → Bool → UserLine → List Told → List DomainValue → Result A Refusal
+abbrev pub HasStopped : {A : Type 0} → Bool → UserLine → List AnsweredCommand → List DomainValue → Result A Refusal
     → Type 0
 HasStopped stops l told domains (Ok done) = IsAtEnd stops l told
 HasStopped stops l told domains (Err refusal) = IsStoppedBy l told domains refusal
@@ -75,15 +75,15 @@ GoesOnIf true domain old new = HasGoneOn domain old new
 GoesOnIf false domain old new = new ≡ old
 
 -- a line's end: nothing more is asked, or the farm refuses what is asked next, or it is a peek that can't settle
-abbrev pub HasEndedOn : {A : Type 0} → UserLine → List Told → List DomainValue → Result A Refusal → Type 0
+abbrev pub HasEndedOn : {A : Type 0} → UserLine → List AnsweredCommand → List DomainValue → Result A Refusal → Type 0
 HasEndedOn l told domains (Ok done) = next_event l.command told ≡ None
 HasEndedOn l told domains (Err refusal) = IsStoppedBy l told domains refusal ⊎ IsUnsettled l.command told refusal
 
 -- a line asks all that it asks: some events, and those after the settling of a peek
-pub record AsksWhole {A : Type 0} (l : UserLine) (told : List Told) (old new : List DomainValue)
+pub record AsksWhole {A : Type 0} (l : UserLine) (told : List AnsweredCommand) (old new : List DomainValue)
     (result : Result A Refusal) : Type 0 where
-  pub first : List Told
-  pub second : List Told
+  pub first : List AnsweredCommand
+  pub second : List AnsweredCommand
   pub before : List DomainValue
   pub after : List DomainValue
   pub list : told ≡ first ++ second
@@ -98,7 +98,7 @@ pub record AsksWhole {A : Type 0} (l : UserLine) (told : List Told) (old new : L
 -- a user's line asks all that it asks, and its output line shows the replies, as the program shows them. That memory
 -- ran out is never the end of an answered line
 pub record ShowsUserLine (l : UserLine) (old new : List DomainValue) (text : List ℕ) : Type 0 where
-  pub told : List Told
+  pub told : List AnsweredCommand
   pub result : Result ⊤ Refusal
   pub asks : AsksWhole l told old new result
   pub memory : result ≢ Err NoMemory

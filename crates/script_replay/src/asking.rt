@@ -5,10 +5,10 @@ ghost use Rattle.script_replay.specs.Lines.{AsksOn, AsksWhole, HasStopped};
 
 use crate::asks::UserLine;
 use crate::next::{is_peek, is_read, next_event};
-use domain_core::{By, Refusal, Told};
+use domain_core::{AnsweredCommand, By, Refusal};
 use farm_replay::{AskFault, OpenFarm};
 use line_answers::ROUNDS;
-use step_meter::{StepMeter, StepsEnd};
+use step_meter::{OutOfSteps, StepMeter};
 use whole_farm::laws::runs_add_up;
 
 /// How many Steps a node does at a time while a domain settles, as in the program unless an option says otherwise.
@@ -21,7 +21,7 @@ fn ask_on(
     farm: &mut OpenFarm,
     line: &UserLine<'_>,
     stops_to_read: bool,
-    told: &mut Vec<Told>,
+    told: &mut Vec<AnsweredCommand>,
 ) -> Result<(), Refusal>
     ensures asked { AsksOn line.now told.old.items told.new.items farm.old.farm farm.new.farm }
     ensures ended { HasStopped stops_to_read line.now told.new.items farm.new.farm result }
@@ -39,7 +39,7 @@ fn ask_on(
         }
         told.reserve(1)?;
         let reply = farm.ask(line.domain, By::User(line.user), event)?;
-        told.push_reserved(Told { event, reply });
+        told.push_reserved(AnsweredCommand { event, reply });
     }
     Err(Refusal::NoMemory)
 }
@@ -50,14 +50,14 @@ fn ask_on(
 ///
 /// # Errors
 ///
-/// `StepsEnd` if a peek's domain wants more Steps than the meter allows.
+/// `OutOfSteps` if a peek's domain wants more Steps than the meter allows.
 #[tactic(auto, using(crate::proofs::Exchanges::one_part_ended, crate::proofs::Exchanges::peeks_refused, crate::proofs::Exchanges::peeks_full, crate::proofs::Exchanges::peeks_out_of_memory))]
 pub(crate) fn ask_line<M: StepMeter>(
     farm: &mut OpenFarm,
     line: &UserLine<'_>,
-    told: &mut Vec<Told>,
+    told: &mut Vec<AnsweredCommand>,
     meter: &mut M,
-) -> Result<Result<(), Refusal>, StepsEnd>
+) -> Result<Result<(), Refusal>, OutOfSteps>
     requires { told.old.items ≡ [] }
     ensures { IfOk result (λ ended. AsksWhole line.now told.new.items farm.old.farm farm.new.farm ended) }
 {

@@ -2,13 +2,13 @@
 
 use farm_records::HeadFault;
 use farm_replay::FarmStop;
-use line_mistakes::WrongLine;
-use line_words::NumberedLineFault;
+use lab_words::NumberedLineFault;
 use plan_checker::PlanFault;
-use plan_faults::PlanRefusal;
+use plan_mistakes::PlanRefusal;
 use std::alloc::{AllocError, AllocFailed};
-use step_meter::StepsEnd;
+use step_meter::OutOfSteps;
 use thiserror::Error;
+use word_mistakes::WrongLine;
 
 /// Why a text isn't replayed. None of its lines is answered then.
 #[derive(Debug, Drop, Error)]
@@ -27,7 +27,7 @@ pub enum ReplayFault {
     OfUser(String),
     /// More Steps are wanted than may be done.
     #[error("{0}")]
-    Steps(StepsEnd),
+    Steps(OutOfSteps),
     #[error("memory")]
     Memory(#[from(alloc)] AllocError),
 }
@@ -81,7 +81,7 @@ pub enum RunFault {
     Head(HeadFault),
     /// More Steps are wanted than may be done.
     #[error("{0}")]
-    Steps(StepsEnd),
+    Steps(OutOfSteps),
     #[error("memory")]
     Memory(#[from(alloc)] AllocError),
 }

@@ -6,7 +6,7 @@ ghost use Rattle.script_lines.specs.declared.command.Command.TheVariants.{Peek};
 ghost use Rattle.script_replay.specs.Lines.{is_peek};
 
 use bootstrap::{LEAST_BOOTED, MOST_BOOTED, peek_message, poke_message};
-use domain_core::{Event, Reply, Told};
+use domain_core::{AnsweredCommand, Event, Reply};
 use script_lines::Command;
 
 fn is_write(event: Event) -> bool
@@ -42,7 +42,7 @@ fn is_byte(reply: Reply) -> bool
 }
 
 // How many bytes were put in a host's queue, or refused because it was full.
-fn writes(told: &[Told]) -> usize
+fn writes(told: &[AnsweredCommand]) -> usize
     ensures { result ≡ length (write_replies told.now) }
 {
     let mut count = 0;
@@ -55,7 +55,7 @@ fn writes(told: &[Told]) -> usize
 }
 
 // How often a host's queue was read.
-fn reads(told: &[Told]) -> usize
+fn reads(told: &[AnsweredCommand]) -> usize
     ensures { result ≡ length (read_replies told.now) }
 {
     let mut count = 0;
@@ -68,7 +68,7 @@ fn reads(told: &[Told]) -> usize
 }
 
 // Whether a host had no room for a byte.
-fn was_full(told: &[Told]) -> bool
+fn was_full(told: &[AnsweredCommand]) -> bool
     ensures { result ≡ list_any had_no_room (write_replies told.now) }
 {
     let mut was = false;
@@ -81,7 +81,7 @@ fn was_full(told: &[Told]) -> bool
 }
 
 // Whether each read brought a byte.
-fn all_came(told: &[Told]) -> bool
+fn all_came(told: &[AnsweredCommand]) -> bool
     ensures { result ≡ list_all is_byte (read_replies told.now) }
 {
     let mut all = true;
@@ -93,7 +93,7 @@ fn all_came(told: &[Told]) -> bool
     all
 }
 
-fn next_config(bytes: &[u8], told: &[Told]) -> Option<Event>
+fn next_config(bytes: &[u8], told: &[AnsweredCommand]) -> Option<Event>
     ensures { result ≡ next_config bytes.now told.now }
 {
     match bytes.get(told.len()) {
@@ -102,7 +102,7 @@ fn next_config(bytes: &[u8], told: &[Told]) -> Option<Event>
     }
 }
 
-fn next_write(host: u8, bytes: &[u8], told: &[Told]) -> Option<Event>
+fn next_write(host: u8, bytes: &[u8], told: &[AnsweredCommand]) -> Option<Event>
     ensures { result ≡ next_write host bytes.now told.now }
 {
     if was_full(told) {
@@ -125,7 +125,7 @@ fn boot_byte(code: &[u8], index: usize) -> Option<u8>
     }
 }
 
-fn next_boot(host: u8, code: &[u8], told: &[Told]) -> Option<Event>
+fn next_boot(host: u8, code: &[u8], told: &[AnsweredCommand]) -> Option<Event>
     ensures { result ≡ next_boot host code.now told.now }
 {
     if code.len() < LEAST_BOOTED || code.len() > MOST_BOOTED || was_full(told) {
@@ -137,20 +137,20 @@ fn next_boot(host: u8, code: &[u8], told: &[Told]) -> Option<Event>
     }
 }
 
-fn next_collect(host: u8, told: &[Told]) -> Option<Event>
+fn next_collect(host: u8, told: &[AnsweredCommand]) -> Option<Event>
     ensures { result ≡ next_collect host told.now }
 {
     all_came(told).then_some(Event::Read(host))
 }
 
-fn next_read(host: u8, count: usize, told: &[Told]) -> Option<Event>
+fn next_read(host: u8, count: usize, told: &[AnsweredCommand]) -> Option<Event>
     ensures { result ≡ next_read host count told.now }
 {
     let is_next = all_came(told) && reads(told) < count;
     is_next.then_some(Event::Read(host))
 }
 
-fn next_peek(host: u8, address: u32, told: &[Told]) -> Option<Event>
+fn next_peek(host: u8, address: u32, told: &[AnsweredCommand]) -> Option<Event>
     ensures { result ≡ next_event (Peek host address) told.now }
 {
     match next_write(host, &peek_message(address), told) {
@@ -159,14 +159,14 @@ fn next_peek(host: u8, address: u32, told: &[Told]) -> Option<Event>
     }
 }
 
-fn once(event: Event, told: &[Told]) -> Option<Event>
+fn once(event: Event, told: &[AnsweredCommand]) -> Option<Event>
     ensures { result ≡ once event told.now }
 {
     told.is_empty().then_some(event)
 }
 
 /// The event that a line asks next, after those that were answered, with their replies; `None` at its end.
-pub(crate) fn next_event(command: &Command, told: &[Told]) -> Option<Event>
+pub(crate) fn next_event(command: &Command, told: &[AnsweredCommand]) -> Option<Event>
     ensures { result ≡ next_event command.now told.now }
 {
     match command {

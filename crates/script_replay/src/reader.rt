@@ -1,10 +1,10 @@
 //! Reading lines of users.
 
 use crate::asks::{AskedLine, UserLine};
-use lab_script::{Expanded, LoadedFile, expanded_line, is_help_line};
-use line_faults::tell_wrong_line;
+use lab_script::{Expanded, LoadedFile, expanded_line, is_shorthand_line};
 use plan_checker::{AcceptedPlan, UserNumber};
 use script_lines::{LineFault, LineWords, Unread, parse_request};
+use script_mistakes::tell_wrong_line;
 use script_text::{NumberedLine, numbered_lines};
 use std::alloc::{AllocError, Global};
 
@@ -68,7 +68,7 @@ impl<'p> LineReader<'p> {
 
     // Whether a line that begins with a user's name is no line of a user.
     fn is_of_lab(&self, line: &str) -> Result<bool, AllocError> {
-        if is_help_line(line) {
+        if is_shorthand_line(line) {
             return Ok(false);
         }
         if says_who_asks(line) {
@@ -83,7 +83,7 @@ impl<'p> LineReader<'p> {
         }
     }
 
-    /// Adds what a line of this user asks: one line of the program, or those into which it is spelled out if it helps.
+    /// Adds what a line of this user asks: one line of the program, or those into which it is spelled out if it is a shorthand line.
     /// Returns the message about it if it is wrong.
     pub(crate) fn read<'a>(
         &self,
@@ -106,7 +106,7 @@ impl<'p> LineReader<'p> {
         tell_wrong_line(self.alloc, self.names.as_slice(), line, LineFault::User)
     }
 
-    // The plain lines into which a line is spelled out, if it helps.
+    // The plain lines into which a line is spelled out, if it is a shorthand line.
     fn expansion_of(&self, line: NumberedLine<'_>) -> Result<Option<Expanded>, AllocError> {
         match std::str::from_utf8(line.text) {
             Ok(text) => expanded_line(self.alloc, line.number, text, self.files),

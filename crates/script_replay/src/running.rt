@@ -7,15 +7,15 @@ use crate::reader::LineReader;
 use crate::recording::record_of;
 use farm_replay::FarmStop;
 use lab_script::LoadedFile;
-use line_faults::WrongLines;
 use plan_checker::AcceptedPlan;
-use plan_faults::plan_or_reason;
+use plan_mistakes::plan_or_reason;
+use script_mistakes::WrongLines;
 use script_text::{TextWriter, divide_at_plan_end, is_passed_over, numbered_lines};
 use std::alloc::Global;
 use step_meter::StepMeter;
 
 /// Runs the script of a text, which comes after its plan and a line `---`, and gives the output lines of each user, in the
-/// order of the plan. Lines that help may load these files.
+/// order of the plan. Shorthand lines may load these files.
 ///
 /// # Errors
 ///

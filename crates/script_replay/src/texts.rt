@@ -8,7 +8,7 @@ use crossbar::{PORTS, Word};
 use event_text::{RepeatedRequest, read_request};
 use farm_replay::{AnsweredRequests, FarmStop, answer_requests};
 use lab_script::{LoadedFile, file_loaded};
-use line_words::{Answered, NumberedLineFault, Question, read_questions};
+use lab_words::{Answered, NumberedLineFault, Question, read_questions};
 use plan_checker::{AcceptedPlan, accept_plan};
 use script_text::{
     NumberedLine, TextWriter, divide, divide_at_plan_end, is_passed_over, numbered_lines,

@@ -24,7 +24,7 @@ through_beginning byte (suc n) (x ∷ xs) = of (x == byte) (through_beginning by
     of true rest = ap (λ xs. x ∷ xs) (nothing n)
     of false rest = ap (λ xs. x ∷ xs) rest
 
--- what is read of a text of which a limit lets through the beginning
+-- what is read of a text if a limit lets its beginning through
 pub line_of_beginning : {E : Type 0} (outcome : Result ℕ E) (known through : Option (List ℕ)) (most limit : ℕ)
     (old new : List ℕ) → through ≡ known → limit ≡ most + 1
     → OnOk outcome (IfSome (option_map (take limit) through) (λ xs. new ≡ old ++ take_through 10 xs))

@@ -9,7 +9,7 @@ use Rattle.std.proofs.lemmas.List.{take-append-drop, drop_all}
 use Rattle.std.proofs.Math.Seq.{take-append_seam}
 use Rattle.script_text.specs.Lines.{is_line_feed, line_of, after_line, from_line, IsLine}
 
--- if a line feed is found, the first line is what stands before it, without a carriage return at its end
+-- if a line feed is found, the first line is what is before it, without a carriage return at its end
 pub line_at : (text : List ℕ) (end : ℕ) → position_or_len is_line_feed text ≡ end → end < length text
     → line_of text ≡ strip_carriage_return (take end text)
 line_at text end found inside =
@@ -21,7 +21,7 @@ pub line_of_all : (text : List ℕ) → position_or_len is_line_feed text ≡ le
 line_of_all text none =
     cond-false (nat_lt (position_or_len is_line_feed text) (length text)) _ _ (le-ltb _ _ (rw none (omega arith)))
 
--- and no text stands behind it
+-- and no text comes after it
 pub nothing_after : (text : List ℕ) → position_or_len is_line_feed text ≡ length text → after_line text ≡ []
 nothing_after text none = drop_all (position_or_len is_line_feed text + 1) text (rw none (omega arith))
 
@@ -73,7 +73,7 @@ pub is_empty : (xs : List ℕ) → true ≡ (length xs == 0) → xs ≡ []
 is_empty [] same = refl
 is_empty (x ∷ xs) same = absurd (omega (arith, eqb-true (length (x ∷ xs)) 0 (sym same)))
 
--- what stands behind the first line of an end of a text is an end of that text
+-- what comes after the first line of an end of a text is an end of that text
 pub text_before : (text before rest : List ℕ) → text ≡ before ++ rest
     → (longer : List ℕ) × (text ≡ longer ++ after_line rest)
 text_before text before rest parts =
@@ -83,7 +83,7 @@ text_before text before rest parts =
           ∙ sym (append_assoc before (take n rest) (drop n rest)),
     )
 
--- an end of a text stands behind as many bytes as the text is longer
+-- an end of a text comes after as many bytes as the text is longer
 pub before_rest : (text before rest : List ℕ) → text ≡ before ++ rest
     → text ≡ take (length text - length rest) text ++ rest
 before_rest text before rest parts =

@@ -1,4 +1,4 @@
--- A list with one more item behind the others.
+-- A list with one more item after the others.
 use Rattle.std.proofs.Common.{ℕ, zero, suc, List, [], ◌∷◌, ◌++◌, length, slice_get, IfSome, rules}
 
 -- what holds of each item at its place, and of one more, holds of all

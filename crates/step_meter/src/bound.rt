@@ -9,7 +9,7 @@ pub const STEPS_AT_ONCE: u64 = 1_048_576;
 /// As many Steps were done in all as may be, and more are wanted.
 #[derive(Clone, Copy, Debug, Error)]
 #[error("stopped after {most} Steps: --steps N allows more")]
-pub struct StepsEnd {
+pub struct OutOfSteps {
     /// How many may be done.
     pub most: u64,
 }
@@ -41,8 +41,8 @@ impl StepBound {
     ///
     /// # Errors
     ///
-    /// `StepsEnd` if some are wanted and none may be done.
-    pub fn allow(&self, wanted: u64) -> Result<u64, StepsEnd>
+    /// `OutOfSteps` if some are wanted and none may be done.
+    pub fn allow(&self, wanted: u64) -> Result<u64, OutOfSteps>
         ensures some { IfOk result (λ some. 0 < wanted → 0 < some) }
         ensures within { IfOk result (λ some. some ≤ wanted) }
         ensures bound { IfOk result (λ some. IfSome self.now.most (λ most. 0 < some → self.now.done + some ≤ most)) }
@@ -53,7 +53,7 @@ impl StepBound {
             return Ok(some);
         };
         if some > 0 && most <= self.done {
-            return Err(StepsEnd { most });
+            return Err(OutOfSteps { most });
         }
         Ok(some.min(most.saturating_sub(self.done)))
     }

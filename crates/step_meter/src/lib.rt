@@ -4,5 +4,5 @@
 mod bound;
 mod meter;
 
-pub use crate::bound::{STEPS_AT_ONCE, StepBound, StepsEnd};
+pub use crate::bound::{OutOfSteps, STEPS_AT_ONCE, StepBound};
 pub use crate::meter::StepMeter;

@@ -1,7 +1,7 @@
 //! What counts Steps.
 ghost use Rattle.std.specs.Prelude.{◌<◌, ◌≤◌, IfOk};
 
-use crate::bound::StepsEnd;
+use crate::bound::OutOfSteps;
 
 /// Counts the Steps that are done: it says how many may be done, and can show a person how many were. Long work asks it
 /// again and again, and does no more Steps between two questions than it allows.
@@ -10,8 +10,8 @@ pub trait StepMeter {
     ///
     /// # Errors
     ///
-    /// `StepsEnd` if some are wanted and none may be done.
-    fn allow(&mut self, wanted: u64) -> Result<u64, StepsEnd>
+    /// `OutOfSteps` if some are wanted and none may be done.
+    fn allow(&mut self, wanted: u64) -> Result<u64, OutOfSteps>
         ensures some { IfOk result (λ some. 0 < wanted → 0 < some) }
         ensures within { IfOk result (λ some. some ≤ wanted) };
 

@@ -49,7 +49,7 @@ first_held : (held : List (List ℕ)) (ports : List ℕ) → slice_get held 0 �
 first_held [] ports is = absurd (none-some ports is)
 first_held (d ∷ held) ports is = ap (λ (p : List ℕ). p ∷ []) (same_Some d ports is)
 
--- a seat that was just dealt holds its domain alone, takes no slot, and its words are a row of the domain's ports
+-- a seat that has just been dealt holds its domain alone, takes no slot, and its words are a row of the domain's ports
 pub dealt : NumberingsAreFew → (shared_words seat : TableId) (view : View) (me : Me (Unit {0}) View) (ports : List ℕ)
     → seat ≡ shared_words → seat.words ≡ 32 → view.words ≡ replicate 32 0 → slice_get view.held 0 ≡ Some ports
     → IsNumbering ports

@@ -20,7 +20,7 @@ shifted_plain Prefix n same = cc
 shifted_plain NegativePrefix n same = cc
 shifted_plain _ n same = refl
 
--- if the function of a byte is a prefix, reading goes on behind the byte with the operand that it makes
+-- if the function of a byte is a prefix, reading goes on after the byte with the operand that it makes
 pub passes : (operand byte : ℕ) (rest : List ℕ) → continues (function_of (byte / 16)) ≡ true
     → read_from operand (byte ∷ rest) ≡ read_from (accumulated operand byte) rest
 unfolding read_from
@@ -48,7 +48,7 @@ taken_in operand byte n function same is nibble =
     ap (λ g. shifted g (bit_or operand (byte % 16))) is
     ∙ ap (shifted function) (joined operand (byte % 16) same (omega arith) ∙ ap (λ x. operand + x) nibble)
 
--- behind pfix and nfix the instruction goes on
+-- after pfix and nfix the instruction goes on
 pub goes_on_prefix : (negative : Bool) → continues (prefix_of negative) ≡ true
 goes_on_prefix true = refl
 goes_on_prefix false = refl

@@ -11,7 +11,7 @@ gap_lt size address some = go (eqb (address % size) 0) refl where
   go true h = some
   go false h = grind (arith, nat_tests)
 
--- behind it the address is a multiple of the size
+-- after it the address is a multiple of the size
 pub gap_reaches : (size address : ℕ) → 0 < size → (address + gap size address) % size ≡ 0
 gap_reaches size address some = go (eqb (address % size) 0) refl where
   go : (b : Bool) → eqb (address % size) 0 ≡ b → (address + cond b 0 (size - address % size)) % size ≡ 0

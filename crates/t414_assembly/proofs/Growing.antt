@@ -66,7 +66,7 @@ same_statement : (statements : List Statement) (k : ℕ) (s statement : Statemen
 same_statement statements k s statement here there =
     sym (get_or_from_slice_get statements k s s here) ∙ get_or_from_slice_get statements k statement s there
 
--- starts of the first places, with that behind the next statement, are starts of one place more
+-- starts of the first places, with that after the next statement, are starts of one place more
 pub more_starts : (origin : ℕ) (statements : List Statement) (rooms : List ℕ) (i : ℕ) (starts : List ℕ)
     (start size : ℕ) (s : Statement)
     → AreStarts origin statements rooms i starts → slice_index starts i ≡ start → slice_get statements i ≡ Some s
@@ -178,7 +178,7 @@ sum-set xs i n lt = sum_by-set (λ x. x) xs i n 0 lt
 pub sum-most : (xs : List ℕ) → ((k : ℕ) → slice_index xs k ≤ 8) → sum xs ≤ length xs * 8
 sum-most xs most = sum_by-le (λ x. x) 8 xs (λ k d lt. subst (λ x. x ≤ 8) (get_or_default xs k 0 d lt) (most k))
 
--- rooms of which one was replaced by another that is tight, of 1 to 8 bytes, are rooms of the statements
+-- rooms with one that was replaced by another that is tight, of 1 to 8 bytes, are rooms of the statements
 pub more_room : (statements : List Statement) (rooms : List ℕ) (i n : ℕ) (s : Statement)
     → AreRooms statements rooms → slice_get statements i ≡ Some s → 1 ≤ n → n ≤ 8 → IsTight n s
     → AreRooms statements (set rooms i n)
@@ -213,7 +213,7 @@ pub le_of_flag : (grown : Bool) (a b : ℕ) → (grown ≡ true → a < b) → (
 le_of_flag true a b more same = omega (arith, more refl)
 le_of_flag false a b more same = omega (arith, same refl)
 
--- the start behind a statement is its own start and its size in its room
+-- the start after a statement is its own start and its size in its room
 pub next_at : (origin : ℕ) (statements : List Statement) (rooms starts : List ℕ) (n i room : ℕ) {s : Statement}
     → AreStarts origin statements rooms n starts → i < n → slice_get statements i ≡ Some s → slice_index rooms i ≡ room
     → slice_index starts (i + 1) ≡ slice_index starts i + size_of (address_of origin starts i) room s

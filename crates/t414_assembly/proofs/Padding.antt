@@ -20,14 +20,14 @@ two = refl
 stays : accumulated 0 0x20 ≡ 0
 stays = taken_in 0 0x20 0 (function_of (0x20 / 16)) refl refl refl ∙ ap (λ f. shifted f 0) two
 
--- bytes behind any number of pfix 0 are read as without them
+-- bytes after any number of pfix 0 are read as without them
 pub pad_reads : (pads : ℕ) (bytes : List ℕ) → read_from 0 (replicate pads 0x20 ++ bytes) ≡ read_from 0 bytes
 pad_reads zero bytes = refl
 pad_reads (suc pads) bytes =
     passes 0 0x20 (replicate pads 0x20 ++ bytes) on ∙ ap (λ o. read_from o (replicate pads 0x20 ++ bytes)) stays
     ∙ pad_reads pads bytes
 
--- bytes that mean an instruction mean it behind any number of pfix 0
+-- bytes that mean an instruction mean it after any number of pfix 0
 pub pad_means : (pads : ℕ) (bytes : List ℕ) (function : Function) (operand : ℕ) → Means bytes function operand
     → Means (replicate pads 0x20 ++ bytes) function operand
 pad_means pads bytes function operand means = λ rest.

@@ -65,7 +65,7 @@ number_usual address next room function (Number m) short means prefix usual_is t
 number_usual address next room function (Label p m) short means prefix usual_is tight n is = cc
 number_usual address next room function (Difference p q m) short means prefix usual_is tight n is = cc
 
--- the shortest bytes of an instruction, behind as many pfix 0 as its room has left, are bytes of it
+-- the shortest bytes of an instruction, after as many pfix 0 as its room has left, are bytes of it
 pub instruction_piece : (address : ℕ → ℕ) (next room : ℕ) (function : Function) (operand : Operand) (short : List ℕ)
     → (continues function ≡ false → Means short function (operand_of address next function operand))
     → (continues function ≡ false → IsShortest short function (operand_of address next function operand))
@@ -90,7 +90,7 @@ instruction_piece address next room function operand short means shortest prefix
   shortest = number_short address next room function operand short means shortest tight;
 }
 
--- bytes behind as many pfix 0 as a room has left fill the room
+-- bytes after as many pfix 0 as a room has left fill the room
 pub piece_length : (room : ℕ) (short : List ℕ) → length short ≤ room
     → length (replicate {A = ℕ} (room - length short) 0x20 ++ short) ≡ room
 piece_length room short less =

@@ -24,7 +24,7 @@ near_complement : (j c : ℕ) → j < 2 ^ 32 → Near c j → Near c (2 ^ 32 - 1
 near_complement j c word (inl h) = inr (omega arith)
 near_complement j c word (inr h) = inl (omega arith)
 
--- what an operand is behind k prefixes
+-- what an operand is after k prefixes
 pub record Prefixed (k : ℕ) (o : ℕ) : Type 0 where
   pub low : o % 16 ≡ 0
   pub word : o < 2 ^ 32
@@ -70,7 +70,7 @@ shifted_more k j NegativePrefix word near on = record {
 }
 shifted_more k j _ word near on = cc
 
--- an operand behind k prefixes, with the nibble of one more and moved by it, is one behind k + 1
+-- an operand after k prefixes, with the nibble of one more and moved by it, is one after k + 1
 pub prefixed_more : (k operand byte : ℕ) → Prefixed k operand → continues (function_of (byte / 16)) ≡ true
     → Prefixed (k + 1) (accumulated operand byte)
 prefixed_more k operand byte given on =
@@ -96,7 +96,7 @@ abbrev rest_in : Option Meant → List ℕ
 rest_in None = []
 rest_in (Some r) = r.rest
 
--- if bytes are read as one instruction behind k prefixes, its operand is within reach of all its prefixes
+-- if bytes are read as one instruction after k prefixes, its operand is within reach of all its prefixes
 pub reaches : (others : List ℕ) (k other_operand n operand : ℕ) (other_function : Function)
     → Prefixed k other_operand → read_from other_operand others
     ≡ Some (record { function = other_function; operand = operand; rest = [] })

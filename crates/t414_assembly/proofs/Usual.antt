@@ -60,7 +60,7 @@ positive_of operand ge lt =
     ∙ ap (λ t. cond t (prefix_bytes 7 (operand / 16) false) (prefix_bytes 7 ((2 ^ 32 - 1 - operand) / 16) true))
     (less_true operand (2 ^ 31) lt))
 
--- a negative operand has the prefixes of its complement's higher nibbles, of which the last is nfix
+-- a negative operand has the prefixes of its complement's higher nibbles, and the last is nfix
 pub negative_of : (operand : ℕ) → 2 ^ 31 ≤ operand
     → prefix_bytes 7 ((2 ^ 32 - 1 - operand) / 16) true ≡ prefixes_of operand
 unfolding prefixes_of

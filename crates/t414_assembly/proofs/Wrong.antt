@@ -19,7 +19,7 @@ abbrev pub with_number : Option Mismatch → ℕ → List ℕ → List ℕ
 with_number (Some _) number others = number ∷ others
 with_number None number others = others
 
--- the wrong lines from one on are that line, if it is wrong, and those behind it
+-- the wrong lines from one on are that line, if it is wrong, and those after it
 next_wrong : (ms : List (Option Mismatch)) (ls : List NumberedLine) (i : ℕ) (line : NumberedLine)
     → slice_get ls i ≡ Some line
     → wrong_lines (drop i ms) (drop i ls)
@@ -44,7 +44,7 @@ next_wrong_at ms ls i line at =
     ≡ with_number (slice_index_or ms i None) line.number (wrong_lines (drop n ms) (drop n ls))) next
     (next_wrong ms ls i line at)
 
--- behind the last line none is wrong
+-- after the last line none is wrong
 pub none_behind : (ms : List (Option Mismatch)) (ls : List NumberedLine) → ls ≡ [] → wrong_lines ms ls ≡ []
 none_behind [] ls is = refl
 none_behind (None ∷ ms) [] is = refl
@@ -52,7 +52,7 @@ none_behind (Some m ∷ ms) [] is = refl
 none_behind (None ∷ ms) (line ∷ ls) is = cc
 none_behind (Some m ∷ ms) (line ∷ ls) is = cc
 
--- twenty numbers, and more behind them
+-- twenty numbers, and more after them
 pub after_twenty : (xs rest wrong : List ℕ) (n : ℕ) (others : List ℕ) → wrong ≡ xs ++ rest → rest ≡ n ∷ others
     → length xs ≡ 20 → (xs ≡ take 20 wrong) × (20 < length wrong)
 after_twenty xs rest wrong n others whole more twenty =
@@ -92,7 +92,7 @@ weaken : {A : Type 0} (P Q : A → Type 0) → ((a : A) → P a → Q a) → (it
 weaken P Q follows (Some a) held = follows a held
 weaken P Q follows None held = held
 
--- numbers of which each is below the next
+-- numbers that are each below the next
 above : (number_at : ℕ → ℕ) → ((k : ℕ) → number_at k < number_at (suc k)) → (k : ℕ)
     → number_at zero < number_at (suc k)
 above number_at up zero = up zero
@@ -115,7 +115,7 @@ in_order (Some m ∷ ms) (line ∷ ls) number_at up each =
     (λ other e. omega (arith, e, here, above number_at up k)) (slice_get ls k) (each (suc k))))
     (in_order ms ls (λ k. number_at (suc k)) (λ k. up (suc k)) (λ k. each (suc k)))
 
--- a fault behind others is of the first line behind theirs
+-- a fault after others is of the first line after theirs
 pub one_more_fault : (faults : List FaultyLine) (one : FaultyLine) (n : ℕ) (others : List ℕ) → one.line ≡ n
     → map (λ (fault : FaultyLine). fault.line) faults ++ n ∷ others
     ≡ map (λ (fault : FaultyLine). fault.line) (faults ++ one ∷ []) ++ others

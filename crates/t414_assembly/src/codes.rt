@@ -15,12 +15,12 @@ pub fn byte_of(function: Function, nibble: u8) -> u8
     ensures nibble { result % 16 ≡ nibble }
     ensures byte { result ≡ nibble_of function * 16 + nibble }
 {
-    code_of(function) * 16 + nibble
+    high_nibble(function) * 16 + nibble
 }
 
 // The high nibble of a function.
 #[tactic(auto, unfolding(t414_decode::specs::Codes::function_of, crate::specs::Usual::nibble_of))]
-fn code_of(function: Function) -> u8
+fn high_nibble(function: Function) -> u8
     ensures function { function_of result ≡ function }
     ensures nibble { result ≡ nibble_of function }
     ensures most { result < 16 }

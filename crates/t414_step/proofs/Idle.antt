@@ -115,7 +115,7 @@ rests-by acts_on rests true s ls m same =
 rests-by acts_on rests false s ls m same =
     rw (rests ls s.queue m same, unserved s ls m, same) (sym (and-true (not s.running) (s.queue.front == not_process)))
 
--- a step says that it is idle just if there is nothing to do
+-- a step says that it is idle exactly if there is nothing to do
 pub tells_idle-step : ServiceActsOnWork → ServiceLeavesTheRest → (s : Cpu) (ls : FourLinks) (m : List ℕ)
     → tells_idle (step s ls m) ≡ has_nothing_to_do s ls
 tells_idle-step acts_on rests s ls m = rests-by acts_on rests _ s ls m refl

@@ -7,8 +7,8 @@ use Rattle.link_channels.specs.declared.process.Process.{Process}
 use Rattle.link_channels.specs.declared.process.Transfer.{Transfer}
 use Rattle.link_channels.specs.declared.process.TransferDirection.{TransferDirection}
 use Rattle.link_channels.specs.declared.process.TransferDirection.TheVariants.{Input, Output}
-use Rattle.link_channels.specs.declared.process.Turn.{Turn}
-use Rattle.link_channels.specs.declared.process.Turn.TheVariants.{GoesOn, Waits}
+use Rattle.link_channels.specs.declared.process.TransferOutcome.{TransferOutcome}
+use Rattle.link_channels.specs.declared.process.TransferOutcome.TheVariants.{GoesOn, Waits}
 use Rattle.link_channels.specs.Messages.{transferred, enable, disable, reset}
 use Rattle.t414_decode.specs.declared.instruction.ChannelOperation.{ChannelOperation}
 use Rattle.t414_decode.specs.declared.instruction.ChannelOperation.TheVariants.{InputMessage, OutputMessage, OutputByte, OutputWord, ResetChannel, DisableChannel, EnableChannel}
@@ -29,7 +29,7 @@ abbrev pub transfer : ℕ → ℕ → ℕ → Transfer
 transfer count channel pointer = record { count = count; channel = channel; pointer = pointer }
 
 -- the process goes on, or it leaves, its place saved
-abbrev pub turned : Turn → Cpu → Cpu
+abbrev pub turned : TransferOutcome → Cpu → Cpu
 turned GoesOn s = s
 turned Waits s = leave s
 

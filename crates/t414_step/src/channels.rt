@@ -5,7 +5,7 @@
 ghost use Rattle.std.specs.Prelude.{◌≡◌};
 
 use crate::cpu::Cpu;
-use link_channels::{Links, Process, Transfer, TransferDirection, Turn};
+use link_channels::{Links, Process, Transfer, TransferDirection, TransferOutcome};
 use node_memory::{Fault, Memory};
 
 #[tactic(auto, unfolding(crate::specs::ChannelRows::channel_row))]
@@ -27,12 +27,12 @@ impl Cpu {
 
     // Goes on, or waits.
     #[inline(always)]
-    fn take_turn(&mut self, turn: Turn)
-        ensures { self.new ≡ turned turn self.old }
+    fn take_outcome(&mut self, outcome: TransferOutcome)
+        ensures { self.new ≡ turned outcome self.old }
     {
-        match turn {
-            Turn::GoesOn => {}
-            Turn::Waits => self.running = false,
+        match outcome {
+            TransferOutcome::GoesOn => {}
+            TransferOutcome::Waits => self.running = false,
         }
     }
 
@@ -62,9 +62,9 @@ impl Cpu {
         let process = self.process();
         // A call gets a copy of the queue, so that no address of the registers is taken.
         let mut queue = self.queue;
-        let turn = process.transfer(memory, links, &mut queue, direction, transfer)?;
+        let outcome = process.transfer(memory, links, &mut queue, direction, transfer)?;
         self.queue = queue;
-        self.take_turn(turn);
+        self.take_outcome(outcome);
         Ok(())
     }
 

@@ -27,8 +27,8 @@ mod watch;
 use crate::farm::Ground;
 use crate::rows::{ROWS, WorkedRow};
 use crate::soak::{short_soak, soak};
-use crate::stages::{Stage, StageEnd, Trial, run};
-use crate::telling::{ToldAtEnd, tell_left, verdict};
+use crate::stages::{Stage, StageOutcome, Trial, run};
+use crate::telling::{OutcomeReport, tell_left, verdict};
 use std::alloc::{AllocError, Global};
 use std::sync::Wait;
 use std::thread::Threads;
@@ -41,7 +41,7 @@ fn report_of_row<R: Threads + Wait + Sync>(
     ground: Ground,
     workers: u8,
     stages: &[Stage],
-    left: ToldAtEnd,
+    left: OutcomeReport,
 ) -> Result<String, AllocError> {
     let trial = Trial {
         ground,
@@ -49,7 +49,7 @@ fn report_of_row<R: Threads + Wait + Sync>(
         stages,
         seed: 1,
     };
-    let StageEnd {
+    let StageOutcome {
         mut said,
         watch,
         closed,

@@ -10,7 +10,7 @@ use crate::stages::Stage::{
     self, Alone, AtOnce, Begun, Burst, Committed, Count, Expect, Held, Meet, Say, Stop, Tell, Word,
     Work, Workers,
 };
-use crate::telling::ToldAtEnd;
+use crate::telling::OutcomeReport;
 use crate::users::Doing;
 
 /// A row: its name, the plan, how many workers there are, what is done, and what is printed of what is left.
@@ -20,7 +20,7 @@ pub struct WorkedRow {
     pub ground: Ground,
     pub workers: u8,
     pub stages: &'static [Stage],
-    pub left: ToldAtEnd,
+    pub left: OutcomeReport,
 }
 
 /// Connects input 2 to output 5, makes it ready, and asks what drives it.
@@ -105,7 +105,7 @@ pub const ROWS: [WorkedRow; 11] = [
         ground: Listed(TrialPlan::AnnAndBob),
         workers: 1,
         stages: &[AtOnce(&[&[], &[Config(&DRIVE_OUTPUT_5)]]), Tell(1, "bob")],
-        left: ToldAtEnd::Second,
+        left: OutcomeReport::Second,
     },
     // Bob's output 5 is physical output 13, and output 20 is no domain's.
     WorkedRow {
@@ -123,7 +123,7 @@ pub const ROWS: [WorkedRow; 11] = [
             Word(20),
             Say(";"),
         ],
-        left: ToldAtEnd::Second,
+        left: OutcomeReport::Second,
     },
     // Each of the worker's turns in ann's domain finds her journal full.
     WorkedRow {
@@ -137,7 +137,7 @@ pub const ROWS: [WorkedRow; 11] = [
             Tell(0, "ann"),
             Tell(1, "bob"),
         ],
-        left: ToldAtEnd::Nothing,
+        left: OutcomeReport::Nothing,
     },
     // While a worker holds the ticket of node 0, which loops, another checks node 1 out and commits it: no lock is held
     // from a checkout to its commit.
@@ -152,7 +152,7 @@ pub const ROWS: [WorkedRow; 11] = [
             Held,
             Committed,
         ],
-        left: ToldAtEnd::Tokens,
+        left: OutcomeReport::Tokens,
     },
     // The word's bytes come with the least significant first. Host 0 is ann's, so nothing that cas writes comes to it.
     WorkedRow {
@@ -169,14 +169,14 @@ pub const ROWS: [WorkedRow; 11] = [
                 (" there is no such user, host, node or port", 100),
             ]),
         ],
-        left: ToldAtEnd::Nothing,
+        left: OutcomeReport::Nothing,
     },
     WorkedRow {
         name: "stopped workers",
         ground: Listed(TrialPlan::TwoNodes),
         workers: 8,
         stages: &[Work(10), Say(","), Stop, Held, Work(10), Say(","), Begun],
-        left: ToldAtEnd::Tokens,
+        left: OutcomeReport::Tokens,
     },
     WorkedRow {
         name: "sixteen users and eight workers",
@@ -187,7 +187,7 @@ pub const ROWS: [WorkedRow; 11] = [
             Count(" 41 none"),
             Say(" read 41;"),
         ],
-        left: ToldAtEnd::Again,
+        left: OutcomeReport::Again,
     },
     // Eight workers have ten turns each, and in each turn one of the eight nodes does 256 Steps, whichever it is.
     WorkedRow {
@@ -195,14 +195,14 @@ pub const ROWS: [WorkedRow; 11] = [
         ground: Sized(EIGHT),
         workers: 8,
         stages: &[AtOnce(&EIGHT_LOOPS), Workers(10)],
-        left: ToldAtEnd::AllSteps,
+        left: OutcomeReport::AllSteps,
     },
     WorkedRow {
         name: "tokens wait in plan order",
         ground: Sized(NINE_NODES),
         workers: 8,
         stages: &[],
-        left: ToldAtEnd::Order,
+        left: OutcomeReport::Order,
     },
     // Four Steps boot bob's node, and then the burst does 256. Ann's has no Step to do.
     WorkedRow {
@@ -213,7 +213,7 @@ pub const ROWS: [WorkedRow; 11] = [
             Alone(&[(1, Config(&JOIN)), (1, Write(0, &LOOPS)), (1, Rounds(1, 5))]),
             Burst(1, 0),
         ],
-        left: ToldAtEnd::Steps,
+        left: OutcomeReport::Steps,
     },
     // Ann's and bob's programs send 41 and stop, so that a lost Step or byte changes what is answered.
     WorkedRow {
@@ -225,6 +225,6 @@ pub const ROWS: [WorkedRow; 11] = [
             Workers(1000),
             AtOnce(&[&LOOK, &LOOK]),
         ],
-        left: ToldAtEnd::Losses,
+        left: OutcomeReport::Losses,
     },
 ];

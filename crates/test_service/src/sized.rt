@@ -17,7 +17,7 @@ pub struct Size {
 }
 
 // The users of a domain, with their hosts at the ports after those of the nodes.
-fn users_of(alloc: Global, domain: u8, size: Size) -> Result<Vec<UserPlan>, AllocError> {
+fn user_plans(alloc: Global, domain: u8, size: Size) -> Result<Vec<UserPlan>, AllocError> {
     let mut users = Vec::with_capacity(alloc, usize::from(size.users))?;
     for user in 0..size.users {
         let host = i64::from(size.nodes) + i64::from(user);
@@ -47,7 +47,7 @@ fn domain_of(alloc: Global, domain: u8, size: Size) -> Result<DomainPlan, AllocE
     let first = ports * i64::from(domain);
     let last = first + ports - 1;
     Ok(DomainPlan {
-        users: users_of(alloc, domain, size)?,
+        users: user_plans(alloc, domain, size)?,
         ranges: vec![in alloc; RangePlan { first, last }]?,
         limit: size.limit,
         nodes: nodes_of(alloc, size)?,

@@ -8,7 +8,7 @@ use crate::gates::Hold;
 use crate::losses::LOSSES;
 use crate::rows::SAYS_41;
 use crate::sized::Size;
-use crate::stages::{Stage, StageEnd, Trial, run as run_trial};
+use crate::stages::{Stage, StageOutcome, Trial, run as run_trial};
 use crate::users::Doing;
 use domain_core::Entry;
 use farm_service::Closed;
@@ -100,7 +100,7 @@ struct Rounds {
 }
 
 // How many events and words are compared.
-fn count_of(closed: &Closed) -> (u64, u64) {
+fn compared_counts(closed: &Closed) -> (u64, u64) {
     let (mut events, mut words) = (0_u64, 0_u64);
     for domain in closed.domains.iter() {
         for index in 0..domain.journal.len() {
@@ -120,13 +120,13 @@ fn wrong_of(
     alloc: Global,
     size: Size,
     seed: u64,
-    ended: &StageEnd,
+    ended: &StageOutcome,
     plants: bool,
 ) -> Result<u64, AllocError> {
     let Some(plan) = Ground::Sized(size).plan(alloc) else {
         return Err(AllocError);
     };
-    let StageEnd { watch, closed, .. } = ended;
+    let StageOutcome { watch, closed, .. } = ended;
     let mut wrong = watch.wrong;
     if !is_alike(alloc, &plan, closed, watch, seed)? {
         wrong = wrong.saturating_add(1);
@@ -149,7 +149,7 @@ fn soak_service<R: Threads + Wait + Sync>(
     first: &'static [&'static [Action]],
     rounds: Rounds,
     seed: u64,
-) -> Result<StageEnd, AllocError> {
+) -> Result<StageOutcome, AllocError> {
     let doing = Doing::Anything(size, rounds.commands);
     let trial = Trial {
         ground: Ground::Sized(size),
@@ -180,7 +180,7 @@ fn compare_services<R: Threads + Wait + Sync>(
     plants: bool,
 ) -> Result<SoakCounts, AllocError> {
     let ended = soak_service(rt, alloc, size, first, rounds, seed)?;
-    let (events, words) = count_of(&ended.closed);
+    let (events, words) = compared_counts(&ended.closed);
     Ok(SoakCounts {
         wrong: wrong_of(alloc, size, seed, &ended, plants)?,
         answered: ended.answered,

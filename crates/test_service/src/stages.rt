@@ -5,7 +5,7 @@ use crate::farm::{Ground, OpenedFarm, close, open};
 use crate::gates::{Hold, TurnsSeen, burst};
 use crate::meeting::{Meeting, Party, run_meeting, work_here};
 use crate::telling::verdict;
-use crate::users::{Doing, TestUser, passes_of, users_of};
+use crate::users::{Doing, TestUser, passes_of, test_users};
 use crate::watch::Watch;
 use domain_core::Committed;
 use farm_service::{Closed, Worked};
@@ -61,7 +61,7 @@ pub struct Trial<'a> {
 
 /// What is left of a trial.
 #[derive(Drop)]
-pub struct StageEnd {
+pub struct StageOutcome {
     /// The text that the stages wrote.
     pub said: String,
     /// How many commands by chance were answered.
@@ -80,7 +80,7 @@ fn name_of(worked: Worked) -> &'static str {
 }
 
 // How many users were answered this.
-fn count_of(users: &[TestUser], text: &str) -> usize {
+fn count_answered(users: &[TestUser], text: &str) -> usize {
     let mut count = 0_usize;
     for user in users {
         if user.said.as_str() == text {
@@ -185,7 +185,7 @@ fn tell<R: Wait>(
         Stage::Alone(actions) => act_alone(rt, alloc, party, actions, said),
         Stage::Tell(place, name) => tell_user(party.users.as_mut_slice(), place, name, said),
         Stage::Count(text) => {
-            let count = count_of(party.users.as_slice(), text);
+            let count = count_answered(party.users.as_slice(), text);
             write!(said, " {count}")
         }
         Stage::Expect(expected) => {
@@ -271,7 +271,12 @@ fn close_all<R: Wait>(
 }
 
 // Closes the service.
-fn end<R: Wait>(rt: &R, alloc: Global, party: Party, said: String) -> Result<StageEnd, AllocError> {
+fn end<R: Wait>(
+    rt: &R,
+    alloc: Global,
+    party: Party,
+    said: String,
+) -> Result<StageOutcome, AllocError> {
     let Party {
         farm,
         users,
@@ -280,7 +285,7 @@ fn end<R: Wait>(rt: &R, alloc: Global, party: Party, said: String) -> Result<Sta
         out_of_memory: _,
     } = party;
     let answered = answered_by(users.as_slice());
-    Ok(StageEnd {
+    Ok(StageOutcome {
         closed: close_all(rt, alloc, farm, users)?,
         said,
         answered,
@@ -295,7 +300,7 @@ fn party_of<R: Wait>(rt: &R, alloc: Global, trial: &Trial<'_>) -> Result<Party, 
     };
     Ok(Party {
         farm,
-        users: users_of(alloc, passes, trial.seed)?,
+        users: test_users(alloc, passes, trial.seed)?,
         watch,
         seen: TurnsSeen::NOTHING,
         out_of_memory: false,
@@ -311,7 +316,7 @@ pub fn run<R: Threads + Wait + Sync>(
     rt: &R,
     alloc: Global,
     trial: Trial<'_>,
-) -> Result<StageEnd, AllocError> {
+) -> Result<StageOutcome, AllocError> {
     let mut party = party_of(rt, alloc, &trial)?;
     let mut said = String::new(alloc);
     for stage in trial.stages {

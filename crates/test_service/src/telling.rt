@@ -10,7 +10,7 @@ use std::alloc::{AllocError, Global};
 
 /// What is printed of what is left, after all was compared with the farm on one thread.
 #[derive(Clone, Copy)]
-pub enum ToldAtEnd {
+pub enum OutcomeReport {
     /// Nothing.
     Nothing,
     /// How many tokens.
@@ -137,25 +137,25 @@ pub fn tell_left(
     plan: &AcceptedPlan,
     closed: &Closed,
     watch: &Watch,
-    left: ToldAtEnd,
+    left: OutcomeReport,
     said: &mut String,
 ) -> Result<(), AllocError> {
     let alike = is_alike(alloc, plan, closed, watch, 1)?;
     let (count, tokens) = (closed.domains.len(), closed.tokens.len());
     match left {
-        ToldAtEnd::Nothing => {}
-        ToldAtEnd::Tokens => write!(said, " {tokens} tokens")?,
-        ToldAtEnd::Second => tell_second(closed, said)?,
-        ToldAtEnd::Order => tell_order(closed, said)?,
-        ToldAtEnd::Steps => tell_steps(closed, said)?,
-        ToldAtEnd::AllSteps => tell_all_steps(closed, said)?,
-        ToldAtEnd::Again => {
+        OutcomeReport::Nothing => {}
+        OutcomeReport::Tokens => write!(said, " {tokens} tokens")?,
+        OutcomeReport::Second => tell_second(closed, said)?,
+        OutcomeReport::Order => tell_order(closed, said)?,
+        OutcomeReport::Steps => tell_steps(closed, said)?,
+        OutcomeReport::AllSteps => tell_all_steps(closed, said)?,
+        OutcomeReport::Again => {
             write!(
                 said,
                 " {count} domains, {tokens} tokens, done again alike: {alike}"
             )?
         }
-        ToldAtEnd::Losses => tell_losses(alloc, plan, closed, watch, said)?,
+        OutcomeReport::Losses => tell_losses(alloc, plan, closed, watch, said)?,
     }
     if !alike {
         said.push_str(" not done again alike")?;

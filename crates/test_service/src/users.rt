@@ -100,7 +100,7 @@ impl TestUser {
 }
 
 /// The users of these passes, with draws that depend on a seed and their places.
-pub fn users_of(
+pub fn test_users(
     alloc: Global,
     passes: Vec<UserPass>,
     seed: u64,

@@ -4,7 +4,7 @@
 
 use crate::NoMemory;
 use crate::pace::BURST_STEPS;
-use crate::rest::{MOST_DOMAINS, NODES_OF_A_DOMAIN};
+use crate::sleep_board::{MOST_DOMAINS, NODES_OF_A_DOMAIN};
 use crossbeam_utils::CachePadded;
 use std::alloc::Global;
 use std::sync::Wait;

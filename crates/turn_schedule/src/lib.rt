@@ -7,11 +7,11 @@
 
 mod allowance;
 mod pace;
-mod rest;
 mod schedule;
+mod sleep_board;
 
 pub use allowance::Allowance;
-pub use pace::{BurstLength, Pace, RoundEnd};
-pub use rest::Rest;
+pub use pace::{BurstLength, Pace, RoundOutcome};
 pub use schedule::{Idleness, Schedule};
+pub use sleep_board::SleepBoard;
 pub use std::alloc::AllocError as NoMemory;

@@ -31,7 +31,7 @@ pub(crate) fn longer(quanta: u64, quantum: u64) -> u64 {
 
 /// What became of a round.
 #[derive(Clone, Copy)]
-pub struct RoundEnd {
+pub struct RoundOutcome {
     /// Whether a packet moved at its end.
     pub moved: bool,
     /// Whether nothing is left to be done.
@@ -80,7 +80,7 @@ impl Pace {
 
     /// The pace after a round, by quanta of `quantum` Steps each, and after `changes` changes of the domain by others.
     /// Bursts no longer grow once the journal had no room for one.
-    pub fn after(self, round: RoundEnd, changes: u64, quantum: u64) -> Pace {
+    pub fn after(self, round: RoundOutcome, changes: u64, quantum: u64) -> Pace {
         let may_grow = self.may_grow && !round.was_shortened;
         let quanta = if round.moved || changes != self.changes || !may_grow {
             1

@@ -8,7 +8,7 @@
 use crate::NoMemory;
 use crate::allowance::Allowance;
 use crate::pace::longer;
-use crate::rest::{MOST_DOMAINS, MOST_NODES, Rest, place_of};
+use crate::sleep_board::{MOST_DOMAINS, MOST_NODES, SleepBoard, place_of};
 use crossbeam_utils::CachePadded;
 use std::alloc::Global;
 use std::hint::spin_loop;
@@ -117,12 +117,12 @@ pub struct Schedule {
     domains: Vec<CachePadded<DomainMarks>>,
     // How many settle in all.
     settling: CachePadded<AtomicUsize>,
-    // How many threads the machine runs at once, `usize::MAX` until that is known.
+    // How many threads the machine runs together, `usize::MAX` until that is known.
     cores: AtomicUsize,
     // What a worker naps on: it stays 0.
     nap: AtomicU64,
     // Which nodes rest, and which workers sleep.
-    rest: Rest,
+    sleep_board: SleepBoard,
     // How many events workers may record.
     allowance: Allowance,
 }
@@ -136,7 +136,7 @@ impl Drop for Schedule {
             settling: _,
             cores: _,
             nap: _,
-            rest: _,
+            sleep_board: _,
             allowance: _,
         } = self;
     }
@@ -216,7 +216,7 @@ impl Schedule {
             settling: CachePadded::new(AtomicUsize::new(0)),
             cores: AtomicUsize::new(usize::MAX),
             nap: AtomicU64::new(0),
-            rest: Rest::empty(alloc)?,
+            sleep_board: SleepBoard::empty(alloc)?,
             allowance: Allowance::empty(alloc)?,
         })
     }
@@ -354,7 +354,7 @@ impl Schedule {
             put(&marks.quanta, 1);
             marks.settlers.fetch_add(1, Ordering::SeqCst);
             self.settling.fetch_add(1, Ordering::SeqCst);
-            self.rest.note_call(domain);
+            self.sleep_board.note_call(domain);
         }
     }
 
@@ -363,7 +363,7 @@ impl Schedule {
         if let Some(marks) = self.domain(domain) {
             marks.settlers.fetch_sub(1, Ordering::SeqCst);
             self.settling.fetch_sub(1, Ordering::SeqCst);
-            self.rest.note_call(domain);
+            self.sleep_board.note_call(domain);
         }
     }
 
@@ -373,8 +373,8 @@ impl Schedule {
     }
 
     /// Which nodes rest, and which workers sleep.
-    pub fn rest(&self) -> &Rest {
-        &self.rest
+    pub fn sleep_board(&self) -> &SleepBoard {
+        &self.sleep_board
     }
 
     /// How many events workers may record in each domain.
@@ -399,14 +399,14 @@ impl Schedule {
     ) {
         let settling = self.settling.load(Ordering::SeqCst);
         if idleness.turns == TURNS_BEFORE_SLEEP {
-            idleness.calls = self.rest.calls();
+            idleness.calls = self.sleep_board.calls();
         }
         let is_crowded = settling.saturating_add(workers_before)
             >= self.cores.load(Ordering::SeqCst);
         if settling > 0 && (is_crowded || idleness.turns > TURNS_BEFORE_NAP) {
             self.nap.park_timeout(rt, 0, Duration::from_millis(1));
         } else if may_sleep && settling == 0 && idleness.has_looked_through() {
-            self.rest.sleep(rt, idleness.calls);
+            self.sleep_board.sleep(rt, idleness.calls);
             idleness.turns = 0;
         } else if idleness.turns % TURNS_A_YIELD == 1 {
             thread::yield_now();

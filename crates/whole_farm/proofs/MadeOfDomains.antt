@@ -125,7 +125,7 @@ tidy_opening plan = record {
 
 -- ---- the states of all domains
 
--- what is stored in a place stands there
+-- what is stored in a place is there
 get-set_same : {X : Type 0} (xs : List X) (i : ℕ) (x y : X) → slice_get xs i ≡ Some y
     → slice_get (slice_set xs i x) i ≡ Some x
 get-set_same [] i x y at = absurd (none-some y at)

@@ -72,7 +72,7 @@ stored_replies (x ∷ merge) =
 
 -- ---- what is there at each domain's number
 
--- below the length of a list something stands
+-- below the length of a list something is
 pub there_is : {X : Type 0} (xs : List X) (i : ℕ) → i < length xs → (x : X) × (slice_get xs i ≡ Some x)
 there_is xs i inside =
     elim (slice_get_cases xs i).1 [
@@ -159,13 +159,13 @@ each_merge_is_a_run laws plan journals states merge separate are is = record {
 
 -- ---- of domains, each with its journal
 
--- what stands at a place of a list that was made of another
+-- what is at a place of a list that was made of another
 made_of : {X Y : Type 0} (make : X → Y) (found : Option X) (y : Y) → option_map make found ≡ Some y
     → (x : X) × (found ≡ Some x) × (make x ≡ y)
 made_of make None y is = absurd (none-some y is)
 made_of make (Some x) y is = (x, refl, same_Some _ _ is)
 
--- a value that is made of each domain is made of one that stands at its number
+-- a value that is made of each domain is made of one that is at its number
 domain_of : {Y : Type 0} (make : DomainValue → Y) (domains : List DomainValue) (number : ℕ) (y : Y)
     → slice_get (map make domains) number ≡ Some y
     → (d : DomainValue) × (slice_get domains number ≡ Some d) × (make d ≡ y)

@@ -30,7 +30,7 @@ use Rattle.whole_farm.proofs.OneOutputSet.{one_set, get-own_switch, contains-own
 use Rattle.whole_farm.proofs.OneOutputSet.{own_switch_sets, untouched, still_drives, number_among-none, keys_of}
 use Rattle.whole_farm.proofs.OneOutputSet.{contains-readied, get-emptied, contains-emptied}
 
--- below the number of ports the raised number stands in their list
+-- below the number of ports the raised number is in their list
 pub port_at : (ports : List ℕ) (v : ℕ) → v < length ports → slice_get ports v ≡ Some (raised ports v)
 port_at ports v less = slice_get-get_or ports v 0 less
 

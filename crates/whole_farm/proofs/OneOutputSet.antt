@@ -59,7 +59,7 @@ one_set laws old switch other_switch output input given holds =
 pub contains_at : (ports : List ℕ) (v port : ℕ) → slice_get ports v ≡ Some port → Contains ports port
 contains_at ports v port at = (v, slice_get_within ports v port at, get_or_from_slice_get ports v port port at)
 
--- a port among the ports stands somewhere in their list
+-- a port among the ports is somewhere in their list
 pub at_contained : (ports : List ℕ) (port : ℕ) → Contains ports port → (v : ℕ) × (slice_get ports v ≡ Some port)
 at_contained ports port is = (is.0, slice_get-get_or ports is.0 port is.1 ∙ ap (λ (x : ℕ). Some x) is.2)
 
@@ -87,7 +87,7 @@ contains-own_switch laws ports s v =
           ∙ sym (ap (ready_at s) (slice_get_past ports v ge))
     ]
 
--- two switches of which the ports see the same
+-- two switches in which the ports see the same
 pub same_own_switch : SwitchLaws → (ports : List ℕ) (old new : Switch)
     → ((v port : ℕ) → slice_get ports v ≡ Some port → map.get new.pairs port ≡ map.get old.pairs port)
     → ((v port : ℕ) → slice_get ports v ≡ Some port → set.contains new.ready port ≡ set.contains old.ready port)
@@ -188,7 +188,7 @@ still_drives ports old new port input own given own_input p from at is =
 
 -- ---- all outputs of a domain
 
--- a port that doesn't stand in the list has no number
+-- a port that isn't in the list has no number
 pub number_among-none : (ports : List ℕ) (port : ℕ) → ((v : ℕ) → slice_get ports v ≡ Some port → ⊥)
     → number_among ports port ≡ None
 number_among-none [] port out = refl
@@ -220,7 +220,7 @@ cond-of-not false value = refl
 same-at-equal : (p : ℕ → Bool) (q x : ℕ) → nat_cmp q x ≡ Equal → p x ≡ p q
 same-at-equal p q x same = ap p (sym (map.nat_cmp-IsAntisymmetric q x same))
 
--- once all connected outputs are ready, an output is ready just if it is connected
+-- once all connected outputs are ready, an output is ready exactly if it is connected
 pub keys_of : (s : Switch) (q : ℕ) → set.contains (all_ready s).ready q ≡ is_some (map.get s.pairs q)
 keys_of s q = set.contains-from_list nat_cmp_total (map.keys s.pairs) q ∙ sym (map.contains_key-keys s.pairs q)
 

@@ -26,7 +26,7 @@ each_domain_of_a_plan laws numbered apart plan calls domain d is at =
     each_domain_is_private laws (places_of plan) calls domain (place_of d) (separate_places numbered apart plan is)
     (place_at plan domain d at)
 
--- its callers are told what a farm with it alone answers to their calls
+-- its callers are answered what a farm with it alone answers to their calls
 pub each_is_told : SwitchLaws → SeparatePlansAreNumbered → SeparatePlansShareNoPort → EachOfAPlanIsToldPrivately
 each_is_told laws numbered apart plan calls domain d is at =
     each_is_told_privately laws (places_of plan) calls domain (place_of d) (separate_places numbered apart plan is)

@@ -35,7 +35,7 @@ own-there domain pair xs ne = let test : (pair.0 == domain) ≡ false = ne_eqb _
 
 -- ---- run after run
 
--- from any farm on, a domain is told what it would be told alone, and becomes what it would become
+-- from any farm on, a domain is answered what it would be answered alone, and becomes what it would become
 record RunsAlone (plan : List Place) (farm : Farm) (calls : List (ℕ × Call)) (domain : ℕ) (place : Place) : Type 0 where
   told : map (lowered_answer place) (own domain (physical_answers plan farm calls))
       ≡ answers place.part (projected place farm domain) (own domain calls)
@@ -153,7 +153,7 @@ each_domain_is_private laws plan calls domain place separate there =
       inside = drives_after laws plan (whole_opening plan) calls separate (opening_drives plan) domain place there;
     }
 
--- farms with equal domains answer these alike, whatever stands beside them and whatever the others call
+-- farms with equal domains answer these alike, whatever is beside them and whatever the others call
 pub equal_domains_are_answered_alike : SwitchLaws → EqualDomainsAreAnsweredAlike
 equal_domains_are_answered_alike laws plan other_plan calls other_calls domain other place there separate
     other_separate at other_at parts asked =
@@ -161,7 +161,7 @@ equal_domains_are_answered_alike laws plan other_plan calls other_calls domain o
     ∙ (λ i. answers (parts i) (opening (parts i)) (asked i))
     ∙ sym (each_domain_is_private laws other_plan other_calls other there other_separate other_at).told
 
--- ---- what all callers are told
+-- ---- what all callers are answered
 
 -- one domain's own of what is made of each
 pub own-map : {X Y : Type 0} (make : ℕ → X → Y) (domain : ℕ) (xs : List (ℕ × X))
@@ -179,11 +179,11 @@ own-map {X} {Y} make domain (x ∷ xs) =
           ∙ sym (ap (map (make domain)) (own-there domain x xs ne))
     ]
 
--- each answer as it is told, with the domain that it goes to
+-- each answer as it is given, with the domain that it goes to
 abbrev pub told_pairs : List Place → List (ℕ × Answer) → List (ℕ × Answer)
 told_pairs plan heard = map (λ t. (t.0, lowered_for (slice_get plan t.0) t.1)) heard
 
--- of all that is told in a run, what a domain's callers are told is what the domain alone answers
+-- of all that is answered in a run, what a domain's callers are answered is what the domain alone answers
 pub own_told : SwitchLaws → (plan : List Place) (calls : List (ℕ × Call)) (domain : ℕ) (place : Place)
     → AreSeparatePlaces plan
     → slice_get plan domain ≡ Some place
@@ -195,13 +195,13 @@ own_told laws plan calls domain place separate there =
     ∙ ap (λ found. map (lowered_for found) (own domain (physical_answers plan (whole_opening plan) calls))) there
     ∙ (each_domain_is_private laws plan calls domain place separate there).told
 
--- the answers of a run are told for the domains of its calls, in their order
+-- the answers of a run are given for the domains of its calls, in their order
 pub told_domains : (plan : List Place) (farm : Farm) (calls : List (ℕ × Call))
     → map (λ t. t.0) (told_pairs plan (physical_answers plan farm calls)) ≡ map (λ c. c.0) calls
 told_domains plan farm [] = refl
 told_domains plan farm (call ∷ calls) = ap (λ ds. call.0 ∷ ds) (told_domains plan (whole_next plan farm call).0 calls)
 
--- what is told of each answer of a run is that answer, lowered by the place of its domain
+-- what is shown of each answer of a run is that answer, lowered by the place of its domain
 pub told_answers : (plan : List Place) (heard : List (ℕ × Answer))
     → map (λ t. t.1) (told_pairs plan heard) ≡ map (λ t. lowered_for (slice_get plan t.0) t.1) heard
 told_answers plan [] = refl
@@ -212,7 +212,7 @@ zip-parts : {X : Type 0} (xs : List (ℕ × X)) → zip (map (λ x. x.0) xs) (ma
 zip-parts [] = refl
 zip-parts (x ∷ xs) = ap (λ rest. x ∷ rest) (zip-parts xs)
 
--- what the callers of a domain are told is what a farm with it alone answers to their calls
+-- what the callers of a domain are answered is what a farm with it alone answers to their calls
 pub each_is_told_privately : SwitchLaws → EachIsToldPrivately
 each_is_told_privately laws plan calls domain place separate there =
     let heard = physical_answers plan (whole_opening plan) calls in

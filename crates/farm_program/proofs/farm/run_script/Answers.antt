@@ -7,7 +7,7 @@ use Rattle.whole_farm.specs.Places.{places_of}
 use Rattle.farm_service.specs.Passes.{fresh_passes}
 use Rattle.farm_service.specs.Closed.{AreDomainsOf, EachMergeRuns}
 use Rattle.plan_rules.specs.Users.{all_names}
-use Rattle.farm_program.specs.declared.farm.ScriptEnd.{ScriptEnd}
+use Rattle.farm_program.specs.declared.farm.ScriptOutcome.{ScriptOutcome}
 use Rattle.farm_program.specs.Closing.{ArePassesOf}
 use Rattle.farm_program.specs.Users.{unasked}
 use Rattle.farm_program.proofs.ClosingLemmas.{all_listed, passes_kept}
@@ -21,7 +21,7 @@ returns-clause-users g c =
     let theirs =
     ap (map unasked) c.in_ok-left.ensures.passes
     ∙ passes_kept plan c.args.lines.now ends c.in_ok-ends.ensures.users in
-    all_listed (λ (ended : ScriptEnd). ended.closed.domains.items) c.args.plan
+    all_listed (λ (ended : ScriptOutcome). ended.closed.domains.items) c.args.plan
     c.in_ok-left.left.passes.items c.close.result
     (subst (λ (plan : List DomainData). ArePassesOf plan c.in_ok-left.left.passes.items) c.in-Ok.ensures.plan theirs)
     c.close.ensures.users

@@ -1,5 +1,5 @@
 use Rattle.std.proofs.Common.{rules, map, inr}
-use Rattle.farm_input.specs.Endings.{EndsByWords}
+use Rattle.farm_cli.specs.Endings.{EndsByWords}
 use Rattle.farm_program.proofs.program.run.Goals as goal
 
 pub returns-in-Err-clause-words : goal.returns-in-Err-clause-words

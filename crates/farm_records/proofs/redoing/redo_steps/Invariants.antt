@@ -5,7 +5,7 @@ use Rattle.domain_core.specs.Journal.{answered_step}
 use Rattle.farm_records.specs.Records.{GainsHistory}
 use Rattle.farm_records.proofs.redoing.redo_steps.Given as goal
 
--- so many Steps were done, and there were some
+-- that many Steps were done, and there were some
 abbrev pub invariant-loop-done : goal.invariant-loop-done
 invariant-loop-done g l = record {
   gains : GainsHistory (replicate l.done (answered_step Farm l.fn.node Ran)) l.fn.domain l.domain;

@@ -3,4 +3,4 @@ use Rattle.lab_film.proofs.frame.switch_words.Given as goal
 
 abbrev pub invariant-loop-output : goal.invariant-loop-output
 invariant-loop-output l =
-    (l.follower ≡ l.initial.follower) × (l.words.items ≡ take l.output l.initial.follower.machine.switch.words)
+    (l.replayed ≡ l.initial.replayed) × (l.words.items ≡ take l.output l.initial.replayed.machine.switch.words)

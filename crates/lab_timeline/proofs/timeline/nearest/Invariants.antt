@@ -3,8 +3,8 @@ use Rattle.lab_timeline.specs.Advance.{IsOfKept}
 use Rattle.lab_timeline.proofs.timeline.nearest.Given as goal
 
 -- what was found so far
-abbrev pub invariant-loop-progress : goal.invariant-loop-progress
-invariant-loop-progress l = record {
-  progress : IsOfKept l.opening l.kept l.found;
-  before : l.found.follower.recorded ≤ l.event;
+abbrev pub invariant-loop-cursor : goal.invariant-loop-cursor
+invariant-loop-cursor l = record {
+  cursor : IsOfKept l.opening l.kept l.found;
+  before : l.found.replayed.recorded ≤ l.event;
 }

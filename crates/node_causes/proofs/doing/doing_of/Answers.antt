@@ -24,7 +24,7 @@ returns-in-Answers c =
 pub returns-in-Runs : goal.returns-in-Runs
 returns-in-Runs c =
     doing_by string_bytes c.args.node.now c.args.cause.now _ c.running_words.result c.in-Runs.is
-    (IfOk-weaker c.running_words.result _ _ (λ _ is. (c.args.past.now.steps, is)) c.running_words.ensures)
+    (IfOk-weaker c.running_words.result _ _ (λ _ is. (c.args.notes.now.steps, is)) c.running_words.ensures)
 
 pub returns-in-Rests : goal.returns-in-Rests
 returns-in-Rests c =
@@ -33,8 +33,8 @@ returns-in-Rests c =
     (subst (λ (b : Bool). IfOk c.resting_words.result (λ text. string_bytes text ≡ resting_text b)) ended
     c.resting_words.ensures)
 
-pub returns-after-past : goal.returns-after-past
-returns-after-past c =
+pub returns-after-notes : goal.returns-after-notes
+returns-after-notes c =
     doing_by string_bytes c.args.node.now c.args.cause.now _ c.halted_words.result c.in-Halted.is
-    (IfOk-weaker c.halted_words.result _ _ (λ _ is. (c.match-past.event, c.as_str.result.now, is))
+    (IfOk-weaker c.halted_words.result _ _ (λ _ is. (c.match-notes.event, c.as_str.result.now, is))
     c.halted_words.ensures)

@@ -7,7 +7,7 @@ use Rattle.node_causes.proofs.paragraphs.all_paragraphs.Goals as goal
 pub loop-number-preserved : goal.loop-number-preserved
 loop-number-preserved c =
     let number = c.loop-number.number in
-    let nodes = c.args.follower.now.machine.devices.nodes in
+    let nodes = c.args.replayed.now.machine.devices.nodes in
     let text = string_bytes c.loop-number.text in
     let one = string_bytes c.in_ok-paragraph.paragraph in
     let is : string_bytes c.push_str.new.self ≡ text ++ one = search rules in
@@ -19,7 +19,7 @@ loop-number-preserved c =
 
 pub returns : goal.returns
 returns c =
-    let nodes = c.args.follower.now.machine.devices.nodes in
+    let nodes = c.args.replayed.now.machine.devices.nodes in
     let eight : c.loop-number.number ≡ 8 = search rules in (
       string_bytes c.loop-number.text,
       string_bytes c.in_ok-alone.alone,

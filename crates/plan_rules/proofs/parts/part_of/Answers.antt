@@ -1,6 +1,6 @@
 use Rattle.std.proofs.Common.{◌≡◌, rules, arith, length, subst, w64, SFits, ap, sym, ◌∙◌, map, unsigned_abs}
 use Rattle.plan_rules.specs.contracts.plan.DomainPlan.{the_view}
-use Rattle.plan_rules.specs.Separate.{count_of}
+use Rattle.plan_rules.specs.Separate.{port_count}
 use Rattle.std.proofs.lemmas.Int.{to_z-of_z}
 use Rattle.plan_rules.specs.Part.{IsPart, part_of, node_part, host_parts}
 use Rattle.plan_rules.proofs.SeparateLemmas.{is_part, part_is, hosts_small, links_small, sizes_of, users_few}
@@ -27,13 +27,13 @@ host_parts-requires-clause-ports c =
     let sep = rw (← c.domain.view_is) at c.requires in
     rw c.as_slice-2.ensures.value (hosts_small _ sep)
 
-pub count_of-requires-clause-ranges : goal.count_of-requires-clause-ranges
-count_of-requires-clause-ranges c =
+pub port_count-requires-clause-ranges : goal.port_count-requires-clause-ranges
+port_count-requires-clause-ranges c =
     let sep = rw (← c.domain.view_is) at c.requires in
     rw c.as_slice-3.ensures.value (are_all_ranges _ sep)
 
-pub count_of-requires-clause-few : goal.count_of-requires-clause-few
-count_of-requires-clause-few c =
+pub port_count-requires-clause-few : goal.port_count-requires-clause-few
+port_count-requires-clause-few c =
     let sep = rw (← c.domain.view_is) at c.requires in
     rw c.as_slice-3.ensures.value (ranges_few _ sep)
 
@@ -56,9 +56,9 @@ invariant_of-result c =
     let fits : SFits w64 c.domain.inside.limit = search rules in
     let len : c.len.result ≡ length (the_view c.domain.inside).users = omega (arith, c.len.ensures) in
     let made =
-    part_is (the_view c.domain.inside) c.count_of.result _ c.len.result c.in_ok-nodes.nodes.items
+    part_is (the_view c.domain.inside) c.port_count.result _ c.len.result c.in_ok-nodes.nodes.items
     c.in_ok-hosts.hosts.items
-    (c.count_of.ensures ∙ ap count_of c.as_slice-3.ensures.value) (ap unsigned_abs (to_z-of_z w64 _ fits)) len
+    (c.port_count.ensures ∙ ap port_count c.as_slice-3.ensures.value) (ap unsigned_abs (to_z-of_z w64 _ fits)) len
     (c.in_ok-nodes.ensures ∙ ap (map node_part) c.as_slice.ensures.value)
     (c.in_ok-hosts.ensures ∙ ap (host_parts 0) c.as_slice-2.ensures.value) in
     subst IsPart (sym made) (is_part (the_view c.domain.inside) sep)
@@ -68,9 +68,9 @@ returns c =
     let fits : SFits w64 c.domain.inside.limit = search rules in
     let len : c.len.result ≡ length (the_view c.domain.inside).users = omega (arith, c.len.ensures) in
     let made =
-    part_is (the_view c.domain.inside) c.count_of.result _ c.len.result c.in_ok-nodes.nodes.items
+    part_is (the_view c.domain.inside) c.port_count.result _ c.len.result c.in_ok-nodes.nodes.items
     c.in_ok-hosts.hosts.items
-    (c.count_of.ensures ∙ ap count_of c.as_slice-3.ensures.value) (ap unsigned_abs (to_z-of_z w64 _ fits)) len
+    (c.port_count.ensures ∙ ap port_count c.as_slice-3.ensures.value) (ap unsigned_abs (to_z-of_z w64 _ fits)) len
     (c.in_ok-nodes.ensures ∙ ap (map node_part) c.as_slice.ensures.value)
     (c.in_ok-hosts.ensures ∙ ap (host_parts 0) c.as_slice-2.ensures.value) in
     made ∙ ap part_of c.domain.view_is

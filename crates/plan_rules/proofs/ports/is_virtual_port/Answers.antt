@@ -1,12 +1,12 @@
 use Rattle.std.proofs.Common.{◌≡◌, ◌≤ℤ◌, ◌<ℤ◌, ◌+ℤ◌, pos, arith, refl, rules, sym, ◌∙◌, w64, SFits, take}
 use Rattle.std.proofs.lemmas.Int.{ints, to_z-of_z}
-use Rattle.plan_rules.specs.Separate.{count_of}
+use Rattle.plan_rules.specs.Separate.{port_count}
 use Rattle.plan_rules.proofs.RuleLemmas.{port_within, port_past, length_least, fits_less}
 use Rattle.plan_rules.proofs.ports.is_virtual_port.Goals as goal
 
 pub returns-then-left-length : goal.returns-then-left-length
 returns-then-left-length c =
-    let port : c.args.port ≡ count_of (take c.loop-range.range-index c.args.ranges.now) +ℤ c.loop-range.left =
+    let port : c.args.port ≡ port_count (take c.loop-range.range-index c.args.ranges.now) +ℤ c.loop-range.left =
     sym (to_z-of_z w64 _ c.ranges.port) ∙ rw c.loop-range.left-is at c.loop-range.invariant.1 in
     let fits : SFits w64 c.length_of-length.result = search rules in
     let test = rw (c.loop-range.left-is, to_z-of_z w64 _ fits) at c.if-left-length.true in

@@ -1,6 +1,6 @@
 use Rattle.std.proofs.Common.{◌≡◌, List, [], ◌∷◌, ◌++◌, Some, true, false, sym, ap, ◌∙◌}
 use Rattle.std.proofs.lemmas.Bool.{false≢true}
-use Rattle.domain_core.specs.declared.event.Told.{Told}
+use Rattle.domain_core.specs.declared.event.AnsweredCommand.{AnsweredCommand}
 use Rattle.line_answers.specs.Asks.{is_read, next_event}
 use Rattle.script_replay.proofs.Exchanges.{asks_more, still_unread, told_of}
 use Rattle.script_replay.proofs.asking.ask_on.Goals.{else-stops_to_read-via-then-stops_to_read+else-is_read}
@@ -14,7 +14,8 @@ loop-preserved c =
     let next : next_event command l.told.items ≡ Some c.in-Some.event =
     ap (next_event command) (sym c.as_slice.ensures.value) ∙ sym c.next_event.ensures ∙ c.in-Some.is in
     let list = c.push_reserved.ensures.items
-    ∙ ap (λ (xs : List Told). xs ++ told_of c.in-Some.event c.in_ok-reply.reply ∷ []) c.reserve.ensures.items in
+    ∙ ap (λ (xs : List AnsweredCommand). xs ++ told_of c.in-Some.event c.in_ok-reply.reply ∷ [])
+    c.reserve.ensures.items in
     let unread : c.args.stops_to_read ≡ true → is_read c.in-Some.event ≡ false =
     λ stop. elim c.else-stops_to_read.branch [
       | else-stops_to_read-via-then-stops_to_read+else-is_read w ↦

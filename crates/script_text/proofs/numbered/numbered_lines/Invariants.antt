@@ -3,7 +3,7 @@ use Rattle.std.specs.Prelude.{IfSome, slice_get}
 use Rattle.script_text.specs.Lines.{from_line, IsLine}
 use Rattle.script_text.proofs.numbered.numbered_lines.Given as goal
 
--- the lines so far stand before the rest
+-- the lines so far are before the rest
 abbrev pub invariant-loop-rest : goal.invariant-loop-rest
 invariant-loop-rest l =
     (l.rest ≡ from_line (length l.lines.items) l.text)

@@ -4,5 +4,5 @@ use Rattle.t414_assembly.proofs.codes.byte_of.Goals as goal
 
 pub returns-clause-function : goal.returns-clause-function
 returns-clause-function c =
-    let e : (c.code_of.result * 16 + c.args.nibble) / 16 ≡ c.code_of.result = omega (arith, c.requires) in
-    ap function_of e ∙ c.code_of.ensures.function
+    let e : (c.high_nibble.result * 16 + c.args.nibble) / 16 ≡ c.high_nibble.result = omega (arith, c.requires) in
+    ap function_of e ∙ c.high_nibble.ensures.function

@@ -22,18 +22,18 @@ use Rattle.domain_core.proofs.Meant.{step_there}
 use Rattle.domain_core.proofs.domain.Domain.commit_in_place.Goals as goal
 
 -- what becomes of a ticket, or why it is refused
-abbrev Told : Type 0
-Told = Result Committed Refusal
+abbrev CommitOutcome : Type 0
+CommitOutcome = Result Committed Refusal
 
--- a refusal isn't what a committed or a stale ticket is told
-refused : (told : Told) (refusal : Refusal) (committed : Committed) → told ≡ Err refusal → told ≢ Ok committed
+-- a refusal isn't what a committed or a stale ticket is answered
+refused : (told : CommitOutcome) (refusal : Refusal) (committed : Committed) → told ≡ Err refusal → told ≢ Ok committed
 refused told refusal committed is other = absurd cc
 
 -- a committed ticket isn't stale
-was_done : (told : Told) → told ≡ Ok Done → told ≢ Ok Stale
+was_done : (told : CommitOutcome) → told ≡ Ok Done → told ≢ Ok Stale
 was_done told is other = absurd cc
 
--- so many more events pass the limit, if more than it has left were asked for
+-- that many more events pass the limit, if more than it has left were asked for
 past_limit : (recorded limit steps long same count : ℕ) → limit - recorded < steps → recorded ≡ long → limit ≡ same
     → steps ≡ count
     → same < long + count

@@ -23,11 +23,11 @@ use Rattle.domain_core.proofs.Meant.{same_history}
 use Rattle.domain_core.proofs.moment.Moment.burst.Goals as goal
 
 -- what a burst comes to, or why it is refused
-abbrev Told : Type 0
-Told = Result Burst Refusal
+abbrev BurstOutcome : Type 0
+BurstOutcome = Result Burst Refusal
 
 -- a burst isn't a refusal
-was_told : (told : Told) (burst : Burst) → told ≡ Ok burst → told ≢ Err NoSuch
+was_told : (told : BurstOutcome) (burst : Burst) → told ≡ Ok burst → told ≢ Err NoSuch
 was_told told burst is other = absurd cc
 
 -- a node that is there isn't none

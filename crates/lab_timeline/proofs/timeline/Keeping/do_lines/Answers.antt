@@ -1,7 +1,7 @@
 use Rattle.std.proofs.Common.{◌≡◌, ◌≤◌, arith, length}
 use Rattle.std.proofs.lemmas.List.{length-map}
 use Rattle.record_following.specs.declared.line.RecordedLine.{RecordedLine}
-use Rattle.record_following.specs.Progress.{said_by}
+use Rattle.record_following.specs.RecordCursor.{said_by}
 use Rattle.lab_timeline.proofs.timeline.Keeping.do_lines.Goals as goal
 
 pub returns-clause-end : goal.returns-clause-end
@@ -11,4 +11,4 @@ returns-clause-end g c =
     let same : length lines ≡ length c.args.lines.now =
     length-map c.args.lines.now (λ (line : RecordedLine). line.call) in
     let end : length lines ≤ l.here.next = omega (arith, c.loop-here-test.false, same) in
-    c.progress_ends.ensures.law c.args.plan.now lines l.here l.invariant.progress l.invariant.rest end
+    c.cursor_ends.ensures.law c.args.plan.now lines l.here l.invariant.cursor l.invariant.rest end

@@ -1,5 +1,0 @@
-use Rattle.record_following.proofs.Led.{ends}
-use Rattle.record_following.proofs.laws.progress_ends.Goals as goal
-
-pub returns : goal.returns
-returns c = record { law = ends }

@@ -1,8 +1,0 @@
-use Rattle.std.proofs.Common.{refl}
-use Rattle.record_following.proofs.Led.{opened_empty, opened_progress}
-use Rattle.record_following.proofs.progress.Progress.open.Goals as goal
-
-pub returns-clause-progress : goal.returns-clause-progress
-returns-clause-progress c =
-    λ lines. opened_progress c.args.plan.now lines _ refl refl c.in_ok-open.ensures.after
-    (opened_empty c.args.plan.now c.in_ok-open.field-0 c.requires c.in_ok-open.ensures.after)
