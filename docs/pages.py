@@ -23,6 +23,16 @@ PLAIN_WORDS = {
 }
 
 
+# The promise, in the words that were fixed: it stays as it is, whatever words it has.
+HEADLINE = (
+    "Under a plan that the checker accepted, for every interleaving of the users' commands and the processors' steps in which no call "
+    "met want of memory, each user's enquiries, peeked words, output and faults are those of a farm that holds his domain alone and "
+    "takes his own commands and steps in the same order; two farms that agree on his domain answer him alike."
+)
+# Where it is: a page, and the comment of the call that keeps it.
+HEADLINE_PLACES = ("docs/PROMISES.md", "crates/farm_core/src/calls.rt")
+# A line of fewer letters isn't taken for a part of it.
+HEADLINE_PART = 20
 # The comments in plain words: each kind of file, and how a line of its comments begins.
 PLAIN_COMMENTS = (("crates/*/src/**/*.rt", r"\s*//"), ("crates/*/specs/**/*.antt", r"\s*--"), ("crates/*/proofs/**/*.antt", r"\s*--"))
 
@@ -50,10 +60,26 @@ def plain_lines(top):
                     yield file, number, line
 
 
+def is_of_headline(line):
+    """Whether a line of a page or a comment is a part of the promise."""
+    part = line.strip("/> ")
+    return len(part) >= HEADLINE_PART and (part in HEADLINE or HEADLINE in part)
+
+
+def lost_headlines(top):
+    """Each file that is to have the promise and hasn't, as file, line and what is wrong."""
+    for place in HEADLINE_PLACES:
+        text = " ".join(line.strip("/> ") for line in (top / place).read_text(encoding="utf-8").split("\n"))
+        if HEADLINE not in text:
+            yield top / place, 1, f"the promise isn't there word for word: {HEADLINE}"
+
+
 def wrong_words(top):
     """Each word of a page or comment in plain words that isn't plain, as file, line and what is wrong. What is in backticks, or
     in a link's target, isn't looked at."""
     for file, number, line in plain_lines(top):
+        if is_of_headline(line):
+            continue
         text = re.sub(r"`[^`]*`|\]\([^)]*\)", "", line)
         for words, better in PLAIN_WORDS.items():
             for found in re.findall(rf"\b(?:{words})\b", text, re.I):

@@ -46,9 +46,9 @@ fn answers_to(
 /// Opens the farm of a plan and answers the events of all domains, in order.
 ///
 /// Under a plan that the checker accepted, for every interleaving of the users' commands and the
-/// processors' steps in which no call ran out of memory, each user's enquiries, peeked words, output
-/// and faults are those of a farm that holds the user's domain alone and takes the domain's own
-/// commands and steps in the same order; two farms that agree on the domain answer its users alike.
+/// processors' steps in which no call met want of memory, each user's enquiries, peeked words,
+/// output and faults are those of a farm that holds his domain alone and takes his own commands and
+/// steps in the same order; two farms that agree on his domain answer him alike.
 pub fn run(
     alloc: Global,
     plan: &AcceptedPlan,

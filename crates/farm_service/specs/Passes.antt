@@ -1,5 +1,5 @@
 -- What contracts see of a user's pass and of a user's session.
-use Rattle.std.specs.Prelude.{ℕ, zero, suc, Bool, true, false, List, [], ◌∷◌, ◌++◌, ◌≡◌, Ok, Err, length}
+use Rattle.std.specs.Prelude.{ℕ, zero, suc, Bool, true, false, List, [], ◌∷◌, ◌++◌, ◌≡◌, Result, Ok, Err, length}
 use Rattle.plan_rules.specs.Data.{DomainData}
 use Rattle.domain_core.specs.declared.event.By.TheVariants.{User}
 use Rattle.domain_core.specs.declared.event.Event.{Event}
@@ -84,3 +84,12 @@ with_nearly_full pass = record pass { met_nearly_full = true }
 abbrev pub Gains : SessionValue → Event → Answer → SessionValue → Type 0
 Gains s event (Ok reply) t = t ≡ record s { pass = with_told s.pass event reply }
 Gains s event (Err refusal) t = t ≡ record s { pass = with_refusal s.pass refusal }
+
+-- ---- a settling
+
+-- the session stays, but for a settling that was refused since the journal was full or nearly full: the pass notes that
+abbrev pub NotesRefusal : {A : Type 0} → SessionValue → Result A Refusal → SessionValue → Type 0
+NotesRefusal s (Ok settled) t = t ≡ s
+NotesRefusal s (Err NoSuch) t = t ≡ s
+NotesRefusal s (Err JournalFull) t = t ≡ record s { pass = with_nearly_full s.pass }
+NotesRefusal s (Err NoMemory) t = t ≡ s

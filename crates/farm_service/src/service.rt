@@ -454,9 +454,9 @@ impl Service {
     /// full journal only if its domain's journal has as many events as its limit; users asked for all commands,
     /// and the farm itself for nothing but Steps and Moves; and the tokens are the plan's nodes, each once.
     ///
-    /// If a journal has other commands of a user than the user's pass lists, or isn't full though the user's
-    /// pass has met a full one, or has a command of the farm itself or a Step or a Move of a user, the call
-    /// waits for ever. No run comes to it, unless a history that was done again has such a call.
+    /// If a journal has other commands of a user than the user's pass lists, or isn't full, or nearly full, though the pass
+    /// notes that it was, or has a command of the farm itself or a Step or a Move of a user, the call waits for ever. No run
+    /// comes to it whose passes are those of this service's opening, unless a history that was done again has such a call.
     ///
     /// # Errors
     ///

@@ -4,7 +4,7 @@ ghost use Rattle.std.specs.Prelude.{◌≡◌, ◌≢◌, ◌<◌, ◌≤◌, Er
 ghost use Rattle.domain_core.specs.declared.event.Refusal.TheVariants.{NoSuch, NoMemory};
 ghost use Rattle.domain_core.specs.declared.event.Event.TheVariants.{Config, Write, Read, Reset, Look};
 ghost use Rattle.farm_service.specs.Answers.{IsTold, HasNoRoomLeft};
-ghost use Rattle.farm_service.specs.Passes.{Gains, with_nearly_full};
+ghost use Rattle.farm_service.specs.Passes.{Gains, NotesRefusal};
 ghost use Rattle.farm_service.specs.Restarts.{begun_anew};
 
 use crate::pass::UserPass;
@@ -183,14 +183,6 @@ impl Session<'_> {
         self.ask(rt, alloc, Event::Look(node))
     }
 
-    /// Notes in the user's pass that a settling was refused with `JournalFull`: the domain's journal was full, or had
-    /// fewer events below its limit than the Steps of a node's quantum. Whether it is so is seen when the service is closed.
-    pub fn note_nearly_full(&mut self)
-        ensures { self.new ≡ record self.old { pass = with_nearly_full self.old.pass } }
-    {
-        self.pass.note_nearly_full();
-    }
-
     /// Does up to `rounds` rounds of the domain, until it is quiet: in each round every node does up to
     /// `quantum` Steps, 1 to 4,096, outside the lock, and then the packets of all ports move. While nothing
     /// moves, a round has up to 256 quanta, never more than 65,536 Steps, and counts as that many rounds. The list
@@ -215,6 +207,32 @@ impl Session<'_> {
         self.service.schedule().begin_settling(domain);
         let settled = self.service.settle(rt, alloc, domain, quantum, rounds);
         self.service.schedule().end_settling(domain);
+        settled
+    }
+
+    /// Settles as [`Session::settle`] does, before the user reads. If that is refused with `JournalFull`, the user's pass
+    /// notes it: the domain's journal is full, or has fewer events below its limit than the Steps of a node's quantum.
+    /// Whether it is so is seen when the service is closed. The list of the user's pass stays.
+    ///
+    /// # Errors
+    ///
+    /// As [`Session::settle`].
+    pub fn settle_to_read<R: Wait>(
+        &mut self,
+        rt: &R,
+        alloc: Global,
+        quantum: u64,
+        rounds: u64,
+    ) -> Result<Settled, Refusal>
+        requires quantum { (1 ≤ quantum) × (quantum ≤ 4096) }
+        ensures elsewhere { length self.old.plan ≤ self.old.pass.domain → result ≡ Err NoSuch }
+        ensures there { self.old.pass.domain < length self.old.plan → result ≢ Err NoSuch }
+        ensures note { NotesRefusal self.old result self.new }
+    {
+        let settled = self.settle(rt, alloc, quantum, rounds);
+        if matches!(settled, Err(Refusal::JournalFull)) {
+            self.pass.note_nearly_full();
+        }
         settled
     }
 }

@@ -135,13 +135,10 @@ fn settle_to_read<R: Wait>(
 ) -> Result<(), Refusal>
     ensures { HasSettled session.old result session.new }
 {
-    match settle(rt, alloc, session, quantum) {
-        Err(Refusal::JournalFull) => {
-            session.note_nearly_full();
-            Err(Refusal::JournalFull)
-        }
+    match session.settle_to_read(rt, alloc, quantum.steps(), ROUNDS) {
+        Ok(_) | Err(Refusal::NoSuch) => Ok(()),
+        Err(Refusal::JournalFull) => Err(Refusal::JournalFull),
         Err(Refusal::NoMemory) => Err(Refusal::NoMemory),
-        Ok(()) | Err(Refusal::NoSuch) => Ok(()),
     }
 }
 

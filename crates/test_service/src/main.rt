@@ -17,6 +17,7 @@ mod parts;
 mod plans;
 mod refusals;
 mod rows;
+mod runs;
 mod sized;
 mod soak;
 mod stages;
@@ -84,6 +85,9 @@ fn tell_parts(rt: &impl Print, alloc: Global) -> io::Result<()> {
         ("change count", parts::change_the_greatest_count()),
         ("farm", refusals::refuse_calls(alloc)),
         ("run", refusals::run_again(alloc)),
+        ("settings", parts::read_settings(alloc)),
+        ("full host", runs::fill_a_host(alloc)),
+        ("runs elsewhere", runs::run_elsewhere(alloc)),
     ] {
         let told = verdict(came.is_ok());
         println!(rt; "{name}: {told}")?;

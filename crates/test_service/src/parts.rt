@@ -5,6 +5,7 @@ use crate::plans::{TrialPlan, plan_of};
 use bootstrap::{BootFault, LinkNumber, Memory, Node, Packet, boot_message};
 use crossbar::{Outputs, PlainOutputs, PortRange, Word, connect};
 use domain_core::Host;
+use farm_cli::{Settings, settings};
 use plan_rules::{AcceptedPlan, PlanFault};
 use std::alloc::{AllocError, Global};
 use virtual_switch::{ConfigReply, VirtualSwitch};
@@ -138,15 +139,39 @@ pub fn feed_switch(alloc: Global) -> Result<(), Otherwise> {
     }
 }
 
-/// The greatest change count stays where an output is connected: no text changes an output so often. The output is
-/// that of port 3, alone in its row.
+/// The greatest change count stays where an output is connected: no text changes an output so often. The other outputs stay
+/// unused.
 pub fn change_the_greatest_count() -> Result<(), Otherwise> {
-    let full = Word {
+    let mut words = [Word::UNUSED; 32];
+    words[2] = Word {
         bits: 0xffff_ffff_ffff_ff00,
     };
-    let alone = PortRange { first: 3, last: 3 };
-    let mut outputs = PlainOutputs::of([full; 32], [Some(alone), None, None, None]);
-    connect(&mut outputs, 3, 0);
-    let connected = outputs.read(0);
-    holds(connected.bits == 0xffff_ffff_ffff_ff83 && connected.changes() == 0x00ff_ffff_ffff_ffff)
+    let eight = PortRange { first: 0, last: 7 };
+    let mut outputs = PlainOutputs::of(words, [Some(eight), None, None, None]);
+    connect(&mut outputs, 3, 2);
+    for output in 0..8u8 {
+        let expected = if output == 2 {
+            0xffff_ffff_ffff_ff83
+        } else {
+            0
+        };
+        holds(outputs.read(output).bits == expected)?;
+    }
+    Ok(())
+}
+
+// The settings of words, asked for again after a refusal.
+fn settings_again(alloc: Global, words: &[&str]) -> Result<Settings, Otherwise> {
+    match settings(alloc, words) {
+        Ok(said) => Ok(said),
+        Err(_) => settings(alloc, words).map_err(|_| Otherwise),
+    }
+}
+
+/// The settings are those of the words, and else 2 workers and a quantum of 256.
+pub fn read_settings(alloc: Global) -> Result<(), Otherwise> {
+    let said = settings_again(alloc, &["farm", "--workers", "8", "--quantum", "1"])?;
+    holds(said.workers == 8 && said.quantum == 1)?;
+    let unsaid = settings_again(alloc, &["farm"])?;
+    holds(unsaid.workers == 2 && unsaid.quantum == 256)
 }

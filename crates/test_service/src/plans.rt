@@ -14,6 +14,10 @@ pub enum TrialPlan {
     TwoNodes,
     /// Ann and cas are users of one domain, with ports 0 to 7. Ann's host is host 0, and cas's is host 1.
     AnnAndCas,
+    /// Ann alone, whose ports 0 to 7 are the physical ports 24 to 31.
+    AnnAtTheEnd,
+    /// Ann alone, whose ports 0 to 3 are the physical ports 24 to 27, and ports 4 to 7 the physical ports 4 to 7.
+    AnnInTwoRanges,
 }
 
 /// How many events a domain records at most, if nothing else is said.
@@ -35,18 +39,22 @@ fn node(memory: i64, port: i64) -> NodePlan {
     }
 }
 
-// A domain of a range of ports.
+// The physical ports from one to another.
+fn ports(first: i64, last: i64) -> RangePlan {
+    RangePlan { first, last }
+}
+
+// A domain of ranges of ports.
 fn domain(
     alloc: Global,
-    first: i64,
-    last: i64,
+    ranges: Vec<RangePlan>,
     limit: i64,
     users: Vec<UserPlan>,
     nodes: Vec<NodePlan>,
 ) -> Result<DomainPlan, AllocError> {
     Ok(DomainPlan {
         users,
-        ranges: vec![in alloc; RangePlan { first, last }]?,
+        ranges,
         limit,
         nodes,
     })
@@ -56,19 +64,23 @@ fn domain(
 fn domain_of_one(
     alloc: Global,
     name: &str,
-    first: i64,
-    last: i64,
+    ranges: Vec<RangePlan>,
     limit: i64,
 ) -> Result<DomainPlan, AllocError> {
     let users = vec![in alloc; user(alloc, name, &[7])?]?;
     let nodes = vec![in alloc; node(4096, 0)]?;
-    domain(alloc, first, last, limit, users, nodes)
+    domain(alloc, ranges, limit, users, nodes)
+}
+
+// Ann alone, at these ports.
+fn ann_alone(alloc: Global, ranges: Vec<RangePlan>) -> Result<Vec<DomainPlan>, AllocError> {
+    Ok(vec![in alloc; domain_of_one(alloc, "ann", ranges, LIMIT)?]?)
 }
 
 // Ann, whose domain records at most `limit` events, and bob.
 fn ann_and_bob(alloc: Global, limit: i64) -> Result<Vec<DomainPlan>, AllocError> {
-    let ann = domain_of_one(alloc, "ann", 0, 7, limit)?;
-    let bob = domain_of_one(alloc, "bob", 8, 15, LIMIT)?;
+    let ann = domain_of_one(alloc, "ann", vec![in alloc; ports(0, 7)]?, limit)?;
+    let bob = domain_of_one(alloc, "bob", vec![in alloc; ports(8, 15)]?, LIMIT)?;
     Ok(vec![in alloc; ann, bob]?)
 }
 
@@ -76,7 +88,7 @@ fn ann_and_bob(alloc: Global, limit: i64) -> Result<Vec<DomainPlan>, AllocError>
 fn two_nodes(alloc: Global) -> Result<DomainPlan, AllocError> {
     let users = vec![in alloc; user(alloc, "ann", &[3, 2])?]?;
     let nodes = vec![in alloc; node(2048, 0), node(2048, 1)]?;
-    domain(alloc, 0, 3, LIMIT, users, nodes)
+    domain(alloc, vec![in alloc; ports(0, 3)]?, LIMIT, users, nodes)
 }
 
 // A domain of ann's and cas's with a node at port 0, ann's host at port 7 and cas's at port 6.
@@ -84,7 +96,8 @@ fn ann_and_cas(alloc: Global) -> Result<DomainPlan, AllocError> {
     let ann = user(alloc, "ann", &[7])?;
     let cas = user(alloc, "cas", &[6])?;
     let nodes = vec![in alloc; node(4096, 0)]?;
-    domain(alloc, 0, 7, LIMIT, vec![in alloc; ann, cas]?, nodes)
+    let ranges = vec![in alloc; ports(0, 7)]?;
+    domain(alloc, ranges, LIMIT, vec![in alloc; ann, cas]?, nodes)
 }
 
 // The domains of a plan.
@@ -94,6 +107,10 @@ fn domains_of(alloc: Global, plan: TrialPlan) -> Result<Vec<DomainPlan>, AllocEr
         TrialPlan::AnnOfThreeEvents => ann_and_bob(alloc, 3),
         TrialPlan::TwoNodes => Ok(vec![in alloc; two_nodes(alloc)?]?),
         TrialPlan::AnnAndCas => Ok(vec![in alloc; ann_and_cas(alloc)?]?),
+        TrialPlan::AnnAtTheEnd => ann_alone(alloc, vec![in alloc; ports(24, 31)]?),
+        TrialPlan::AnnInTwoRanges => {
+            ann_alone(alloc, vec![in alloc; ports(24, 27), ports(4, 7)]?)
+        },
     }
 }
 

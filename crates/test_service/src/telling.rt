@@ -3,10 +3,11 @@
 use crate::comparison::is_alike;
 use crate::losses::{LOSSES, Loss};
 use crate::watch::Watch;
-use domain_core::{Entry, Journal};
+use domain_core::{Entry, Journal, Reply};
 use farm_service::{Closed, Token};
 use plan_rules::AcceptedPlan;
 use std::alloc::{AllocError, Global};
+use virtual_switch::ConfigReply;
 
 /// What is printed of what is left, after all was compared with the farm on one thread.
 #[derive(Clone, Copy)]
@@ -15,7 +16,8 @@ pub enum OutcomeReport {
     Nothing,
     /// How many tokens.
     Tokens,
-    /// How many entries the second domain's journal has, the word of its output 5, and which tokens in which order.
+    /// How many entries the second domain's journal has and what each was answered, the word of its output 5, and which
+    /// tokens in which order.
     Second,
     /// Which tokens, in which order.
     Order,
@@ -46,13 +48,37 @@ fn tell_order(closed: &Closed, said: &mut String) -> Result<(), AllocError> {
     Ok(())
 }
 
+// What each entry of a journal was answered, if it is of the switch.
+fn tell_replies(journal: &Journal, said: &mut String) -> Result<(), AllocError> {
+    for index in 0..journal.len() {
+        match journal.get(index) {
+            Some(
+                Entry::One {
+                    reply: Reply::Config(ConfigReply::Nothing),
+                    ..
+                },
+            ) => said.push_str(" nothing")?,
+            Some(
+                Entry::One {
+                    reply: Reply::Config(ConfigReply::Answer(byte)),
+                    ..
+                },
+            ) => write!(said, " {byte:02x}")?,
+            _ => said.push_str(" another")?,
+        }
+    }
+    Ok(())
+}
+
 // Of the second domain.
 fn tell_second(closed: &Closed, said: &mut String) -> Result<(), AllocError> {
     if let Some(second) = closed.domains.get(1)
         && let Some(word) = second.words.get(5)
     {
         let entries = second.journal.len();
-        write!(said, " {entries} entries, word {:x}, tokens", word.bits)?;
+        write!(said, " {entries} entries")?;
+        tell_replies(&second.journal, said)?;
+        write!(said, ", word {:x}, tokens", word.bits)?;
         tell_order(closed, said)?;
     }
     Ok(())
