@@ -1,5 +1,7 @@
 """Man pages and what bash completes, made from what the commands print for `--help`."""
 import re
+from collections.abc import Iterator
+from typing import Optional
 
 # Help begins an entry this far from the left at most; what goes on with one is further right.
 ENTRY = 10
@@ -11,8 +13,11 @@ class Help:
     """What a program prints for --help, in its parts: how it is called, what it says of itself, its sections by their heads (of
     each the entries with what is said of them), and the paragraphs between them."""
 
-    def __init__(self, text):
-        self.usage, self.about, self.parts = [], "", []
+    def __init__(self, text: str) -> None:
+        self.usage: list[str] = []
+        self.about = ""
+        # of a paragraph, none and its text
+        self.parts: list[tuple[Optional[str], str | list[tuple[str, str]]]] = []
         for block in re.split(r"\n\n+", text.strip("\n")):
             first, _, rest = block.partition("\n")
             head = first.rstrip(":")
@@ -25,14 +30,15 @@ class Help:
             else:
                 self.parts.append((None, " ".join(block.split())))
 
-    def section(self, name):
+    def section(self, name: str) -> list[tuple[str, str]]:
         """The entries of the sections of this head."""
-        return [it for head, all_of in self.parts if head == name for it in all_of]
+        return [it for head, all_of in self.parts if head == name and isinstance(all_of, list) for it in all_of]
 
 
-def entries(text):
+def entries(text: str) -> Iterator[tuple[str, str]]:
     """The entries of a section, each with what is said of it."""
-    name, said = None, []
+    name: Optional[str] = None
+    said: list[str] = []
     for line in text.split("\n"):
         if len(line) - len(line.lstrip()) < ENTRY:
             if name is not None:

@@ -4,9 +4,12 @@ import os
 import shutil
 import signal
 import sys
+from collections.abc import Callable
 from concurrent.futures import FIRST_COMPLETED, ThreadPoolExecutor, wait
+from typing import NoReturn, TextIO
 
-from tree import TOP
+from stamps import Proof, need_toolchain
+from tree import TOP, is_program, stood_on
 
 MEMORY_OF_A_JOB = 2 << 30
 # The crate for which the longest chain waits has so many. More of one crate gain little, and cost those beside it more.
@@ -23,7 +26,7 @@ KIT = os.path.dirname(os.path.realpath(shutil.which("rt") or "rt"))
 os.environ.setdefault("MIMALLOC_PURGE_DELAY", "-1")
 
 
-def lock_alone(file):
+def lock_alone(file: TextIO | int) -> None:
     """Locks a file until this process ends. If another build has it, that is said while it is waited."""
     try:
         fcntl.flock(file, fcntl.LOCK_EX | fcntl.LOCK_NB)
@@ -32,9 +35,10 @@ def lock_alone(file):
         fcntl.flock(file, fcntl.LOCK_EX)
 
 
-def run(main):
+def run(main: Callable[[list[str]], int]) -> NoReturn:
     """Runs a script's `main`, which Ctrl-C ends when what it has begun has ended too, without more ado."""
     try:
+        need_toolchain(os.path.basename(sys.argv[0]))
         signal.signal(signal.SIGINT, signal.default_int_handler)
         sys.exit(main(sys.argv[1:]))
     except KeyboardInterrupt:
@@ -72,7 +76,7 @@ def kilobytes(name, folder):
 
 def seconds_of(name):
     """About how many seconds a crate takes by one job. A program is compiled too, with all that it reaches."""
-    compiled = 75 if os.path.isfile(f"{TOP}/crates/{name}/src/main.rt") else 0
+    compiled = 75 if is_program(name) else 0
     return 6 + 1.5 * kilobytes(name, "src") + 0.4 * kilobytes(name, "proofs") + compiled
 
 
@@ -88,11 +92,6 @@ def seconds_ahead(wanted, below):
     for name in wanted:
         of(name)
     return ahead
-
-
-def stood_on(name, below):
-    """The crates on which a crate stands, at any depth."""
-    return set(below[name]).union(*(stood_on(it, below) for it in below[name]))
 
 
 def crates_wanted(names, below):
@@ -113,7 +112,9 @@ def jobs_for(behind, ready, running, idle):
 
 def prove_all(wanted, most, below, prove):
     """Proves the crates, the longest chain first, by so many jobs, and tells whether all are proved. `prove` takes a crate,
-    its jobs, and how far the system may put it back; it gives whether that went well, what was printed, and seconds."""
+    its jobs, and how far the system may put it back; it gives whether that went well, what was printed, and seconds. Programs get
+    their stamps; one without is as one that isn't proved."""
+    proof = Proof(it for it in wanted if is_program(it))
     ahead = seconds_ahead(wanted, below)
     left, running, done = sorted(wanted, key=lambda it: (-ahead[it], it)), {}, set()
     with ThreadPoolExecutor(most) as pool:
@@ -131,6 +132,8 @@ def prove_all(wanted, most, below, prove):
                 if not is_well:
                     sys.stderr.write(text.decode(errors="replace"))
                     print(f"{name} is not proved", file=sys.stderr)
+                    return False
+                if is_program(name) and not proof.stamp(name):
                     return False
                 done.add(name)
                 print(f"{len(done)} of {len(wanted)}, {name}, {seconds:.0f} s", file=sys.stderr, flush=True)
