@@ -7,8 +7,18 @@
         ann.load(0, "hello.s")
         print(ann.collect(0, count=6, seconds=5))
 """
-from .failures import FarmError, NoFarm, NotAnswered, Refused
-from .farm import Farm
-from .results import Loaded, Look, Note, Rest, State, Why
+from importlib import import_module
 
+# Where each name is. A module is imported when a name of it is first used: the compiler of occam needs none of them.
+_MODULES = {
+    "Farm": "farm",
+    **dict.fromkeys(("FarmError", "NoFarm", "NotAnswered", "Refused"), "failures"),
+    **dict.fromkeys(("Loaded", "Look", "Note", "Rest", "State", "Why"), "results"),
+}
 __all__ = ["Farm", "FarmError", "Loaded", "Look", "NoFarm", "NotAnswered", "Note", "Refused", "Rest", "State", "Why"]
+
+
+def __getattr__(name):
+    if name not in _MODULES:
+        raise AttributeError(f"module {__name__!r} has no attribute {name!r}")
+    return getattr(import_module(f".{_MODULES[name]}", __name__), name)

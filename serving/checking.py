@@ -8,6 +8,8 @@ import tempfile
 from concurrent.futures import ThreadPoolExecutor
 from typing import NamedTuple
 
+from nadzsumek.occam.asking import BOUNDED
+
 from .coming import person_of
 from .escapes import escaped
 from .exercises import LANGUAGES, MOST_STEPS, OWN_FOLDER, exercise_in, is_own
@@ -52,8 +54,9 @@ class Row(NamedTuple):
 def lab(folder, *words, text=None):
     """The status of the lab, what it prints and what it says; no status if it took too long."""
     try:
+        # a student's text of occam is compiled within bounds
         done = subprocess.run([program("lab"), *words], cwd=folder, stdin=subprocess.DEVNULL if text is None else None, input=text,
-                              capture_output=True, timeout=SECONDS, check=False)
+                              env={**os.environ, BOUNDED: "yes"}, capture_output=True, timeout=SECONDS, check=False)
     except subprocess.TimeoutExpired:
         return None, "", f"it took more than {SECONDS} seconds"
     return done.returncode, done.stdout.decode(errors="replace"), done.stderr.decode(errors="replace").strip()

@@ -41,13 +41,14 @@ class Refused(Exception):
 
 
 def program(name):
-    """The path of a program: that of the variable with its name in capitals (LIVE, LAB), or else the command at the
-    top."""
-    return os.path.abspath(os.environ.get(name.upper()) or os.path.join(TOP, name))
+    """The path of a program: that of the variable with its name in capitals (LIVE), or else the command at the top. The lab is run
+    by its command in any case, which starts the program at LAB, if that is set, with the front end of occam beside it."""
+    given = None if name == "lab" else os.environ.get(name.upper())
+    return os.path.abspath(given or os.path.join(TOP, name))
 
 
 def is_built(name):
-    """Whether a program can be run without building it."""
+    """Whether a program can be run without a proof: one that a variable names, or one that is known to be proved."""
     if os.environ.get(name.upper()):
         return True
     call = [os.path.join(TOP, "tools", "start"), "--is-built", name]
@@ -55,7 +56,7 @@ def is_built(name):
 
 
 def build(name):
-    """Builds a program if it isn't built or is stale, and shows that. One that a variable names is taken as it is."""
+    """Proves and builds a program if it isn't known to be proved, and shows that. One that a variable names is taken as it is."""
     if is_built(name):
         return
     call = [os.path.join(TOP, "tools", "start"), "--only-build", name]

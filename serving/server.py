@@ -30,6 +30,8 @@ PATIENCE, WATCHES = 30, 3
 LOOK_SECONDS = 2
 # How long `lab plan` may take.
 LAB_SECONDS = 10
+# The status of the lab if a plan is refused.
+REFUSED_PLAN = 3
 # So many connections wait before a socket.
 MOST_WAITING = 128
 # Clients of 64 users need so many open files at most.
@@ -373,7 +375,8 @@ def plan_faults(path):
     with contextlib.suppress(OSError, subprocess.TimeoutExpired), open(path, "rb") as plan:
         if is_built("lab"):
             done = subprocess.run([program("lab"), "plan"], stdin=plan, capture_output=True, timeout=LAB_SECONDS, check=False)
-            return "; ".join(done.stderr.decode(errors="replace").splitlines())
+            if done.returncode == REFUSED_PLAN:
+                return "; ".join(done.stderr.decode(errors="replace").splitlines())
     return ""
 
 

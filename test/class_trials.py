@@ -13,7 +13,7 @@ import time
 from live_lines import PLAN
 from screens import CONTROL_C, Screen
 from serving_trials import SECONDS, Served, wanted
-from trials import TOP, built
+from trials import TOP, built_program
 
 sys.path.append(TOP)
 # pylint: disable=wrong-import-position
@@ -47,7 +47,7 @@ class Course:
 
     def __init__(self, live, count, *more):
         self.room = tempfile.TemporaryDirectory()  # pylint: disable=consider-using-with
-        self.folder, self.env = f"{self.room.name}/course", {**os.environ, "LIVE": live, "LAB": built("lab")}
+        self.folder, self.env = f"{self.room.name}/course", {**os.environ, "LIVE": live, "LAB": built_program("lab")}
         names = f"{self.room.name}/names.txt"
         with open(names, "w", encoding="utf-8") as it:
             it.write("".join(f"Student {number}\n" for number in range(1, count + 1)))
@@ -340,12 +340,12 @@ def nothing_raw_is_printed(live, _):
     """What another client of a user sent is shown to him with escapes, at a terminal and elsewhere."""
     line = b"look \x1b[2J\x07\xc3\xa9\xff\xc2\x9b\xe2\x80\xae\r\t0"
     shown = "error: not answered, send it again if you want it: look \\x1b[2J\\x07\u00e9\\xff\\x9b\\u202e\\x0d\\x090"
-    env = {**os.environ, "LAB": built("lab"), "HOME": "/nonexistent"}
+    env = {**os.environ, "LAB": built_program("lab"), "HOME": "/nonexistent"}
     with Served(live, PLAN) as it:
         # pylint: disable-next=consider-using-with
         reading = subprocess.Popen([f"{TOP}/connect", it.folder, "ann"], stdin=subprocess.PIPE, stdout=subprocess.PIPE, env=env)
         other = it.client("ann")
-        with Screen([f"{TOP}/connect", it.folder, "ann"], LAB=built("lab"), HOME=it.room.name) as screen:
+        with Screen([f"{TOP}/connect", it.folder, "ann"], LAB=built_program("lab"), HOME=it.room.name) as screen:
             screen.until("ann> ")
             with it.held_live() as number:
                 other.stream.sendall(line + b"\n")

@@ -7,7 +7,7 @@ from class_trials import Course
 from live_lines import PLAN
 from screens import CONTROL_C, CONTROL_D, Screen
 from serving_trials import SECONDS, Served, wanted
-from trials import TOP, built
+from trials import TOP, built_program
 
 HELLO = 'collect 0 68656c6c6f0a  "hello\\n"'
 UNCHECKED = "connect --unchecked sends it even so"
@@ -42,7 +42,7 @@ links = [0, -1, -1, -1]
 def typed(it, name, text, *words):
     """What lines of a file print at a terminal of this user, in their order, and the status."""
     done = subprocess.run([f"{TOP}/connect", it.folder, name, *words], input=text, stdout=subprocess.PIPE, stderr=subprocess.STDOUT,
-                          env={**os.environ, "LAB": built("lab"), "HOME": "/nonexistent"}, timeout=SECONDS, encoding="utf-8", check=False)
+                          env={**os.environ, "LAB": built_program("lab"), "HOME": "/nonexistent"}, timeout=SECONDS, encoding="utf-8", check=False)
     return done.stdout.splitlines(), done.returncode
 
 
@@ -161,7 +161,7 @@ def bytes_of_others_are_no_hindrance(live, _):
 
 def a_person_is_asked(live, _):
     """At a terminal `y` does what is offered, and loads; anything else, Ctrl-C and the end of the input send nothing."""
-    env = {"LAB": built("lab")}
+    env = {"LAB": built_program("lab")}
     with Served(live, PLAN) as it, Screen([f"{TOP}/connect", it.folder, "ann"], HOME=it.room.name, **env) as screen:
         screen.until("ann> ")
         ended = "node 0 has run a program that has ended, and takes no boot before it is reset."

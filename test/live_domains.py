@@ -1,10 +1,10 @@
-"""The trials of `live` that ask who is answered of what: four users in one domain, why a node waits, for each user of each
-domain and through the sockets of `serve`, and a domain for which more lines wait than may."""
+"""The trials of `live` that ask who is answered of what: four users in one domain, sixteen domains that are alike, why a node
+waits, for each user of each domain and through the sockets of `serve`, and a domain for which more lines wait than may."""
 import re
 import subprocess
 import tempfile
 
-from live_lines import FOUR, FOUR_PLAN, LOOP, PLAN, WORD, Live, wanted
+from live_lines import FOUR, FOUR_PLAN, LOOP, PLAN, WORD, Live, plan_of_sixteen, wanted
 from serving_trials import Served
 from trials import built, contents
 
@@ -106,6 +106,48 @@ def why_is_of_the_own_domain(program, workers):
     return f"{len(told)} users of {len(DOMAINS)} domains"
 
 
+# Waits for twenty bytes: ajw 4, ldlp 1, mint, ldnlp 4, ldc 20, and in at 8000004f; stopp.
+TWENTY = "b41124f2542144f721f5"
+
+
+def lines_of_alike(place):
+    """What the user of one of sixteen domains asks, and is answered: all ask the same, but the word in memory, and how many of
+    the twenty bytes come, are the user's own."""
+    return [
+        ("config 01000103", "config -"),
+        (f"poke 0 80000100 123456{place:02x}", "poke 0 9"),
+        ("peek 0 80000100", f"peek 0 123456{place:02x}"),
+        (f"boot 0 {TWENTY}", "boot 0 11"),
+        (f"write 0 {'05' * (place + 1)}", f"write 0 {place + 1}"),
+        ("rest", "rest quiet"),
+    ]
+
+
+def asked_alike(live, places, rows):
+    """Lets the users of these domains ask lines, each of all users before the next."""
+    for row in zip(*(rows(it) for it in places)):
+        for place, (line, answer) in zip(places, row):
+            wanted(live.ask(f"user-{place} {line}"), f"user-{place} {answer}\n")
+
+
+def alike_domains_are_told_apart(program, workers):
+    """Of sixteen domains that are alike but for a word and a count of bytes each user is answered, told why and recorded by the
+    own domain; then some loop, and `rest` says of each whether its own does."""
+    users, loops = range(16), range(0, 16, 3)
+    with tempfile.TemporaryDirectory() as folder:
+        with Live(program, plan_of_sixteen(), workers, ["--record", folder]) as live:
+            asked_alike(live, users, lines_of_alike)
+            for it in users:
+                told = told_why(live.ask_why(f"user-{it} why"), f"user-{it} ")
+                waits = f"  The process at 8000004f waits in `in` for 20 bytes of link 0, of which {it + 1} came.\n"
+                wanted((waits in told, told), (True, of_record(f"{folder}/user-{it}.replay")))
+            again = [("restart", "restart ok"), ("config 01000103", "config -"), ("boot 0 b4600e", "boot 0 4")]
+            asked_alike(live, loops, lambda _: again)
+            asked_alike(live, users, lambda it: [("rest", "rest busy" if it in loops else "rest quiet")])
+            wanted(live.end(), (0, [], []))
+    return f"{len(users)} users, {len(loops)} of whom had a loop"
+
+
 def heard_why(client, line):
     """An answer to `why` at a socket."""
     told = [client.ask(line)]
@@ -158,4 +200,5 @@ def full_mailboxes_lose_nothing(program, workers):
     return f"{done} of {given} lines were done and {len(numbers)} refused"
 
 
-TRIALS = (four_users_have_their_own, why_is_of_the_own_domain, why_is_of_the_own_domain_at_sockets, full_mailboxes_lose_nothing)
+TRIALS = (four_users_have_their_own, alike_domains_are_told_apart, why_is_of_the_own_domain, why_is_of_the_own_domain_at_sockets,
+          full_mailboxes_lose_nothing)

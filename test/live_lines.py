@@ -1,11 +1,15 @@
 """A running farm `live` with its lines, and the plans and programs with which the scripts of this folder try it."""
 import os
 import queue
+import signal
 import subprocess
 import tempfile
 import threading
 
 SECONDS = 20
+# A farm that ends compares all journals with what its users were answered, and waits for ever where that isn't so. So each trial
+# lets its farm end, within this time.
+CLOSE_SECONDS = 20
 PLAN = """version = 3
 
 [[domain]]
@@ -65,6 +69,9 @@ LOOP = ["config 01000703", "boot 0 b4600e"]
 LONG = ["config 01000703", "boot 0 b4" "2120202020204" "0d0" "70608fd070a26008" "21f5"]
 # Waits for a word of four bytes: ajw 4, ldlp 1, mint, ldnlp 4, ldc 4, and in at 8000004e; stopp.
 WORD = ["config 01000703", "boot 0 b41124f25444f721f5"]
+# What is told of it when a byte of the word has come.
+WAITS = ["node 0 rests.", "  The process at 8000004e waits in `in` for 4 bytes of link 0, of which 1 came.",
+         "  Input 7 drives output 0 of link 0. Of host 0 nothing waits there."]
 # His two nodes, each of which gives the other its byte back for ever: the one that is booted last begins.
 BACK = "1124f25441f7" "1124f241fb" "6003"
 PINGS = ["config 01000201040301050103", f"boot 0 b4{BACK}", f"boot 1 b424f240fe{BACK}"]
@@ -94,8 +101,26 @@ links = [2, 3, -1, -1]
 """
 
 
+def plan_of_sixteen():
+    """Sixteen domains of a user each, which are alike but for their names and ports."""
+    part = "version = 3\n"
+    for it in range(16):
+        part += f"""
+[[domain]]
+user = [{{ name = "user-{it}", host = [1] }}]
+range = [[{2 * it}, {2 * it + 1}]]
+limit = 1000000
+
+[[domain.node]]
+memory = 2048
+links = [0, -1, -1, -1]
+"""
+    return part
+
+
 class Live:
-    """A running farm, and the lines that it prints as they come. `begun` is called in its process before it starts."""
+    """A running farm, and the lines that it prints as they come. `begun` is called in its process before it starts. Unless the
+    trial has failed, or has ended or killed the farm, it ends here, as any farm must whose input ends."""
 
     def __init__(self, program, plan, workers="2", more=(), env=None, begun=None):
         self.folder = tempfile.TemporaryDirectory()
@@ -118,11 +143,22 @@ class Live:
     def __enter__(self):
         return self
 
-    def __exit__(self, *_):
-        if self.process.poll() is None:
+    def __exit__(self, kind, *_):
+        try:
+            if kind is None and self.process.returncode is None:
+                wanted(self.close() in (0, -signal.SIGKILL), True)
+        finally:
             self.process.kill()
-        self.process.wait()
-        self.folder.cleanup()
+            self.process.wait()
+            self.folder.cleanup()
+
+    def close(self):
+        """Ends the input: the status with which the farm ends."""
+        self.process.stdin.close()
+        try:
+            return self.process.wait(timeout=CLOSE_SECONDS)
+        except subprocess.TimeoutExpired:
+            raise AssertionError(f"{CLOSE_SECONDS} seconds after its input the farm hasn't closed its domains") from None
 
     def say(self, text):
         self.process.stdin.write(text if isinstance(text, bytes) else text.encode())
@@ -146,8 +182,7 @@ class Live:
 
     def end(self):
         """Ends the input: the status, and what else was printed."""
-        self.process.stdin.close()
-        status = self.process.wait(timeout=SECONDS)
+        status = self.close()
         rest = []
         while (line := self.hear()) is not None:
             rest.append(line)

@@ -108,8 +108,6 @@ WRITTEN = [
     ("a guard of a variable", (18,), "INT q.1, q.2:|ALT|  @q.2 ? q.1|    SKIP", ""),
     ("PRI PAR", (5,), "@PRI PAR|  SKIP|  SKIP", ""),
     ("PLACED PAR", (5,), "@PLACED PAR|  SKIP", ""),
-    ("ALT as a guard", (5,), "INT q.1:|ALT|  @ALT|    q.9 ? q.1|      SKIP", LINK_IN),
-    ("PRI ALT as a guard", (5, 34), "INT q.1:|ALT|  @PRI ALT|    q.9 ? q.1|      SKIP", LINK_IN),
     ("an index of PAR that is assigned", (26,), "PAR q.1 = 0 FOR 2|  @q.1 := 1", ""),
     ("an index of PAR after it", (16,), "INT q.2:|SEQ|  PAR q.1 = 0 FOR 2|    SKIP|  q.2 := @q.1", ""),
     ("a channel that is declared in a component", (16,), "PAR|  CHAN OF INT q.1:|  q.1 ! 1|  @q.1 ! 2", ""),

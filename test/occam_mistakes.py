@@ -86,14 +86,13 @@ BEFORE = [
     ("a variable that is sent to", (18,), "INT q.1:|@q.1 ! 1", ""),
     ("an input into a channel", (18,), "q.9 ? @q.9", "CHAN OF INT q.9:|PLACE q.9 AT {in}:"),
     ("a constant that is assigned", (18, 26), "@link0.out := 1", ""),
-    ("CASE", (5,), "INT q.1:|@CASE q.1|  1|    SKIP", ""),
+    ("an option twice in a CASE", (46,), "INT q.1:|CASE q.1|  1|    SKIP|  @1|    SKIP", ""),
     ("TIMER", (5,), "@TIMER q.1:|SKIP", ""),
     ("REAL32", (5,), "@REAL32 q.1:|SKIP", ""),
     ("INT32", (5,), "@INT32 q.1:|SKIP", ""),
-    ("two assignments in one", (5, 12), "INT q.1, q.2:|%q.1, q.2 := 1, 2", ""),
-    ("FUNCTION", (5,), "INT @FUNCTION q.1 (VAL INT q.2)|SKIP", ""),
-    ("an array of arrays", (5,), "[2]@[3]INT q.1:|SKIP", ""),
-    ("a part of an array", (5,), "[4]INT q.1:|%q.1 := [q.1 FROM 0 FOR 4]", ""),
+    ("too few values", (51,), "INT q.1, q.2:|%q.1, q.2 := 1", ""),
+    ("a FUNCTION without VALOF", (2,), "INT FUNCTION q.1 (VAL INT q.2)|%SKIP", ""),
+    ("a FUNCTION that sends", (48,), "INT FUNCTION q.1 ()|  INT q.2:|  VALOF|    %q.9 ! 1|    RESULT 1|:|SKIP", "CHAN OF INT q.9:|PLACE q.9 AT {out}:"),
     ("RETYPES", (5,), "INT q.1:|%[4]BYTE q.2 RETYPES q.1:|SKIP", ""),
     # PROC
     ("no colon that ends a PROC", (14,), "PROC q.1 ()|  SKIP|@q.1 ()", ""),
@@ -218,9 +217,7 @@ HEADS = [
     ("PLACE of a name that isn't declared", (16,), "PLACE @q.9 AT {in}:"),
     ("PLACE of an array of channels", (13, 18, 30), "[2]CHAN OF INT q.9:|%PLACE q.9 AT {in}:"),
     ("PLACE of an element", (13,), "[2]CHAN OF INT q.9:|%PLACE q.9[0] AT {in}:"),
-    ("CHAN OF ANY", (5,), "%CHAN OF ANY q.9:"),
     ("CHAN without OF", (5, 13), "%CHAN INT q.9:"),
-    ("PROTOCOL", (5,), "@PROTOCOL q.9 IS INT:"),
 ]
 # Mistakes behind the program.
 BEHIND = [

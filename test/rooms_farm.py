@@ -66,8 +66,7 @@ class Farm(Live):
 
     def end(self):
         """Ends the input: the status, what else was printed, and what standard error was told."""
-        self.process.stdin.close()
-        status = self.process.wait(timeout=SECONDS)
+        status = self.close()
         rest, errors = ([it for box in boxes for it in iter(lambda box=box: box.get(timeout=SECONDS), None)]
                         for boxes in (self.boxes.values(), (self.errors,)))
         return status, rest, errors

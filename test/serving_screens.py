@@ -4,12 +4,12 @@ import time
 from live_lines import PLAN
 from screens import CONTROL_C, CONTROL_D, UP, Screen
 from serving_trials import Served, wanted
-from trials import TOP, built
+from trials import TOP, built_program
 
 
 def terminal(served, name, home):
     """A terminal of this user, who is at its prompt."""
-    it = Screen([f"{TOP}/connect", served.folder, name], LAB=built("lab"), HOME=home)
+    it = Screen([f"{TOP}/connect", served.folder, name], LAB=built_program("lab"), HOME=home)
     wanted(it.until(f"{name}> ").replace("\r", ""), f"You are {name}. help lists the verbs, Ctrl-D ends.\n{name}> ")
     return it
 

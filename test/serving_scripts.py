@@ -13,7 +13,7 @@ import time
 
 from screens import Screen
 from serving_trials import MOST_LINE, PLAN, SECONDS, Served, plan_of_users, wanted
-from trials import TOP, built
+from trials import TOP, built_program
 
 sys.path.append(TOP)
 from nadzsumek import Farm, FarmError, Loaded, Look, NoFarm, NotAnswered, Refused, Rest, State
@@ -43,7 +43,7 @@ again:  ldl count
 def lab():
     """Lets this process assemble with the built lab."""
     before = os.environ.get("LAB")
-    os.environ["LAB"] = built("lab")
+    os.environ["LAB"] = built_program("lab")
     try:
         yield
     finally:

@@ -7,7 +7,8 @@ import subprocess
 import sys
 
 sys.path.append(os.path.join(os.path.dirname(os.path.dirname(os.path.abspath(__file__))), "tools"))
-from tree import TOP, built
+import tree
+from tree import TOP
 
 EXAMPLES = f"{TOP}/examples"
 PROGRAMS = f"{EXAMPLES}/programs"
@@ -22,6 +23,20 @@ MOST_SECONDS = 60
 def contents(path):
     with open(path, "rb") as file:
         return file.read()
+
+
+def built_program(name):
+    """The path of a program that is proved and built, or of the one that the variable with its name in capitals has."""
+    return tree.built(name)
+
+
+def built(name):
+    """The command of such a program: its path, and of the lab the command that starts it with its front end of occam."""
+    path = built_program(name)
+    if name != "lab":
+        return path
+    os.environ["LAB"] = path
+    return f"{TOP}/lab"
 
 
 def names_in(folder):

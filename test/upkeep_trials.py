@@ -14,7 +14,7 @@ import time
 from class_trials import Course, child_of
 from live_lines import PLAN
 from serving_trials import SECONDS, Served, hears_ctrl_c, wanted
-from trials import EXAMPLES, TOP, built, contents
+from trials import EXAMPLES, TOP, built, built_program, contents
 
 PROGRAMS = ("farm", "farm_explain", "live", "lab")
 # A plan whose node has the port of the host, and what `lab plan` says of it (docs/guides/OPERATOR.md).
@@ -56,7 +56,7 @@ def scripts_are_in_files(_, __):
 
 def serve_says_where_a_plan_is_wrong(live, _):
     """`serve` and `class start` say where and why a plan is refused, if the lab is there."""
-    for lab, told in ((built("lab"), CLASH), ("/nonexistent", None)):
+    for lab, told in ((built_program("lab"), CLASH), ("/nonexistent", None)):
         with Served(live, CLASHING, starts=False) as it:
             status, _, said = run(*it.call(), env={**it.env, "LAB": lab})
             told = told or f"./lab plan < {it.plan} says where and why"
@@ -129,10 +129,10 @@ def dead_links(folder):
 
 def installations_stay(_, __):
     """What is installed has no dead link, and is there whatever becomes of the next installation."""
-    env = {**os.environ, **{name.upper(): built(name) for name in PROGRAMS}}
+    env = {**os.environ, **{name.upper(): built_program(name) for name in PROGRAMS}}
     with tempfile.TemporaryDirectory() as room:
         prefix = f"{room}/prefix"
-        wanted(run(f"{TOP}/tools/install", prefix, env=env)[::2], (0, ""))
+        wanted(run(f"{TOP}/tools/install", "--draft", prefix, env=env)[::2], (0, ""))
 
         def works():
             wanted(run(f"{prefix}/bin/lab", "disassemble", text="21f5\n", env={"PATH": "/usr/bin:/bin"}), (0, "stopp\n", ""))
@@ -143,12 +143,12 @@ def installations_stay(_, __):
         wanted(os.path.isfile(f"{prefix}/share/doc/nadzsumek/guides/CLASS.md"), True)
         script = f"{prefix}/lib/nadzsumek/examples/two-users.farm"
         wanted(run(f"{prefix}/bin/farm", script, env={"PATH": "/usr/bin:/bin"}), (0, contents(f"{EXAMPLES}/two-users.out").decode(), ""))
-        status, _, said = run(f"{TOP}/tools/install", prefix, env={**env, "FARM_EXPLAIN": "/nonexistent"})
+        status, _, said = run(f"{TOP}/tools/install", "--draft", prefix, env={**env, "FARM_EXPLAIN": "/nonexistent"})
         wanted((status, said), (1, "install: there is no program /nonexistent, so nothing is installed\n"))
         works()
         for sent, seconds in BROKEN_OFF:
             # pylint: disable-next=subprocess-popen-preexec-fn
-            with subprocess.Popen([f"{TOP}/tools/install", prefix], env=env, stdout=subprocess.DEVNULL, stderr=subprocess.DEVNULL,
+            with subprocess.Popen([f"{TOP}/tools/install", "--draft", prefix], env=env, stdout=subprocess.DEVNULL, stderr=subprocess.DEVNULL,
                                   start_new_session=True, preexec_fn=hears_ctrl_c) as installing:
                 time.sleep(seconds)
                 with contextlib.suppress(ProcessLookupError):

@@ -1,8 +1,9 @@
 //! A record is looked through by commands.
 
 use crate::failure::wrong_debugging;
+use crate::front_end::readable_program;
 use crate::programs::{WrongProgram, program_of_text};
-use lab_command::{ArgumentFault, Debugging, LabFailure, TerminalMeter, read_file, readable_bytes};
+use lab_command::{ArgumentFault, Debugging, LabFailure, TerminalMeter, read_file};
 use lab_debug::{DebugFault, Debugger, FoundProgram, ProgramFiles, ProgramOf, debug};
 use script_text::decimal_number;
 use std::alloc::{AllocError, Global};
@@ -14,7 +15,7 @@ struct Files<'a>(&'a HostRuntime);
 
 impl ProgramFiles for Files<'_> {
     fn program_of(&self, file: &str) -> Result<FoundProgram, AllocError> {
-        let Some(text) = readable_bytes(self.0, file)? else {
+        let Some(text) = readable_program(self.0, file)? else {
             return Ok(FoundProgram::Unreadable);
         };
         match program_of_text(self.0.alloc(), file, text) {

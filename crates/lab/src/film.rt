@@ -9,6 +9,7 @@ use lab_film::{SourceLine, Span, film_of, page_of, sources_of};
 use node_trace::{LinePlace, ProgramLine};
 use record_following::RecordStop;
 use std::alloc::{Alloc, AllocError, Global};
+use std::env::Env;
 use std::fs::Files;
 
 /// The page that shows a span of a record, with the lines of the programs that are named. Wrong words are reported before a
@@ -34,7 +35,7 @@ fn print_record(
 }
 
 // The lines of programs, as the page has them.
-fn read_sources<R: Files + Alloc<A = Global>>(
+fn read_sources<R: Files + Env + Alloc<A = Global>>(
     rt: &R,
     programs: &[ProgramOf],
 ) -> Result<String, LabFailure> {

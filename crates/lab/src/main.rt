@@ -6,6 +6,7 @@ mod blocks;
 mod debugging;
 mod failure;
 mod film;
+mod front_end;
 mod mistakes;
 mod occam_texts;
 mod plans;

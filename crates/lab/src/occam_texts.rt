@@ -1,53 +1,41 @@
 //! Occam texts: compiled, and compared with rows.
 
 use crate::blocks::{HEADING, line_number_at, lines_as_text, lines_below, read_lines};
+use crate::front_end::{UnitQuestion, checked_unit};
 use lab_command::{
     AssemblyOptions, LabFailure, OccamForm, OccamRequest, Report, WRONG_TEXT, read_file,
 };
 use lab_words::{Answered, NumberedLineFault, Question};
 use node_answers::{print_assembled, print_code};
-use occam::{
-    ExaminedText, LARGEST_MEMORY, OccamFault, OccamProgram, assembler_text, bytes_at, compile,
-    examine,
+use occam_units::{
+    CoreUnit, LARGEST_MEMORY, OccamFault, OccamProgram, assembler_text, bytes_at, program_of,
+    size_table,
 };
+use script_text::TextWriter;
 use std::alloc::{Alloc, AllocError, Global};
+use std::env::Env;
 use std::fs::Files;
 use t414_assembly::{BOOTED, LOADED, hexadecimal};
 
 /// The program of the occam text in a file, in the form that is asked for, and its warnings; or what is wrong with the text.
-pub fn report_occam<R: Files + Alloc<A = Global>>(
+pub fn report_occam<R: Files + Env + Alloc<A = Global>>(
     rt: &R,
     asked: &OccamRequest,
 ) -> Result<Report, LabFailure> {
     let text = read_file(rt, asked.file)?;
-    let text = text.as_slice();
-    match compile(rt.alloc(), text) {
-        Ok(program) => report_program(rt.alloc(), asked, &program, text),
+    let question = match asked.form {
+        OccamForm::Core => UnitQuestion::UnitWithCore,
+        _ => UnitQuestion::Unit,
+    };
+    match checked_unit(rt, question, text.as_slice()) {
+        Ok(unit) => report_unit(rt.alloc(), asked, &unit),
         Err(fault) => Err(wrong_occam(rt.alloc(), &fault)),
     }
 }
 
-fn report_program(
-    alloc: Global,
-    asked: &OccamRequest,
-    program: &OccamProgram,
-    text: &[u8],
-) -> Result<Report, LabFailure> {
-    match examine(alloc, text) {
-        Ok(examined) => report_examined(alloc, asked, program, text, &examined),
-        Err(fault) => Err(wrong_occam(alloc, &fault)),
-    }
-}
-
-fn report_examined(
-    alloc: Global,
-    asked: &OccamRequest,
-    program: &OccamProgram,
-    text: &[u8],
-    examined: &ExaminedText<'_>,
-) -> Result<Report, LabFailure> {
-    let warnings = Some(examined.warnings(alloc)?);
-    let text = print_program(alloc, asked, program, text, examined)?;
+fn report_unit(alloc: Global, asked: &OccamRequest, unit: &CoreUnit) -> Result<Report, LabFailure> {
+    let warnings = Some(lines_of(alloc, unit.warnings.as_slice())?);
+    let text = print_program(alloc, asked, unit)?;
     Ok(Report {
         text,
         warnings,
@@ -55,20 +43,29 @@ fn report_examined(
     })
 }
 
+// Lines, each with its end.
+fn lines_of(alloc: Global, lines: &[String]) -> Result<String, AllocError> {
+    let mut text = TextWriter::new(alloc);
+    for line in lines {
+        text.push(line.as_str());
+        text.push("\n");
+    }
+    text.finish()
+}
+
 fn print_program(
     alloc: Global,
     asked: &OccamRequest,
-    program: &OccamProgram,
-    text: &[u8],
-    examined: &ExaminedText<'_>,
+    unit: &CoreUnit,
 ) -> Result<String, LabFailure> {
     let origin = match asked.form {
         OccamForm::Pokes { .. } => LOADED,
         _ => BOOTED,
     };
     let memory = asked.memory.unwrap_or(LARGEST_MEMORY);
-    match bytes_at(alloc, origin, program, memory) {
-        Ok(code) => print_form(alloc, asked.form, program, text, code.as_slice(), examined),
+    let program = program_of(alloc, unit)?;
+    match bytes_at(alloc, origin, &program, memory) {
+        Ok(code) => print_form(alloc, asked.form, &program, unit, code.as_slice()),
         Err(fault) => Err(wrong_occam(alloc, &fault)),
     }
 }
@@ -76,9 +73,9 @@ fn print_program(
 fn print_sizes(
     alloc: Global,
     program: &OccamProgram,
-    examined: &ExaminedText<'_>,
+    unit: &CoreUnit,
 ) -> Result<String, LabFailure> {
-    match examined.sizes(alloc, program) {
+    match size_table(alloc, unit, program) {
         Ok(text) => Ok(text),
         Err(fault) => Err(wrong_occam(alloc, &fault)),
     }
@@ -88,22 +85,29 @@ fn print_form(
     alloc: Global,
     form: OccamForm<'_>,
     program: &OccamProgram,
-    text: &[u8],
+    unit: &CoreUnit,
     code: &[u8],
-    examined: &ExaminedText<'_>,
 ) -> Result<String, LabFailure> {
     match form {
-        OccamForm::Text => Ok(assembler_text(alloc, program, text)?),
-        OccamForm::Core => Ok(examined.core_text(alloc)?),
-        OccamForm::Sizes => print_sizes(alloc, program, examined),
+        OccamForm::Text => Ok(assembler_text(alloc, program, unit.text.as_bytes())?),
+        OccamForm::Core => Ok(core_of(alloc, unit)?),
+        OccamForm::Sizes => print_sizes(alloc, program, unit),
         OccamForm::Listing => {
-            let text = assembler_text(alloc, program, text)?;
+            let text = assembler_text(alloc, program, unit.text.as_bytes())?;
             print_assembled(alloc, options_of(true, None), text.as_bytes())
         }
         OccamForm::Code => print_code(alloc, options_of(false, None), code),
         OccamForm::Pokes { host, user } => {
             print_code(alloc, options_of(false, Some((host, user))), code)
         }
+    }
+}
+
+// The core as a text of occam.
+fn core_of(alloc: Global, unit: &CoreUnit) -> Result<String, AllocError> {
+    match &unit.core {
+        Some(text) => String::from_str(alloc, text.as_str()),
+        None => Ok(String::new(alloc)),
     }
 }
 
@@ -151,21 +155,24 @@ fn row_question(heading: &str) -> (RowQuestion, &str) {
 /// below `=== # ...` or before the first heading is a remark.
 ///
 /// `Wrong` if a line isn't UTF-8.
-pub fn compile_rows(alloc: Global, text: &[u8]) -> Result<Vec<Answered<'_>>, NumberedLineFault> {
-    let lines = read_lines(alloc, text)?;
-    let mut answers = Vec::new(alloc);
+pub fn compile_rows<'a, R: Files + Env + Alloc<A = Global>>(
+    rt: &R,
+    text: &'a [u8],
+) -> Result<Vec<Answered<'a>>, NumberedLineFault> {
+    let lines = read_lines(rt.alloc(), text)?;
+    let mut answers = Vec::new(rt.alloc());
     for (index, line) in lines.iter().enumerate() {
         if let Some(expected) = line.strip_prefix(HEADING) {
             let below = lines_below(lines.as_slice(), index);
-            add_row(alloc, &mut answers, line_number_at(index), expected, below)?;
+            add_row(rt, &mut answers, line_number_at(index), expected, below)?;
         }
     }
     Ok(answers)
 }
 
 // Compiles the program of the lines below a heading, unless they are a remark.
-fn add_row<'a>(
-    alloc: Global,
+fn add_row<'a, R: Files + Env + Alloc<A = Global>>(
+    rt: &R,
     answers: &mut Vec<Answered<'a>>,
     line: u64,
     expected: &'a str,
@@ -174,93 +181,75 @@ fn add_row<'a>(
     if expected.starts_with("#") {
         return Ok(());
     }
-    let program = lines_as_text(alloc, below)?;
+    let program = lines_as_text(rt.alloc(), below)?;
     let (question, expected) = row_question(expected);
+    let answer = match answer_of(rt, question, program.as_bytes()) {
+        Ok(answer) => String::from_str(rt.alloc(), answer.as_str().trim_end())?,
+        Err(OccamFault::NoMemory) => return Err(AllocError),
+        Err(fault) => format!(in rt.alloc(); "{fault}")?,
+    };
     answers.push(Answered {
         question: Question {
             line,
             text: "occam",
             expected: Some(expected),
         },
-        answer: answer_of(alloc, question, program.as_bytes())?,
+        answer,
     })?;
     Ok(())
 }
 
-// What is asked of a text, or its mistakes.
-fn answer_of(alloc: Global, question: RowQuestion, text: &[u8]) -> Result<String, AllocError> {
-    match examine(alloc, text) {
-        Ok(examined) => {
-            let answer = match question {
-                RowQuestion::Code => code_of_text(alloc, text)?,
-                RowQuestion::Core => answer_of_core(alloc, text, &examined)?,
-                RowQuestion::Warnings => answer_of_warnings(alloc, &examined)?,
-                RowQuestion::Sizes => answer_of_sizes(alloc, text, &examined)?,
-            };
-            String::from_str(alloc, answer.as_str().trim_end())
-        }
-        Err(fault) => answer_of_fault(alloc, &fault),
-    }
-}
-
-// The code of a text, or its mistakes.
-fn code_of_text(alloc: Global, text: &[u8]) -> Result<String, AllocError> {
-    match compile(alloc, text) {
-        Ok(program) => answer_of_program(alloc, &program),
-        Err(fault) => answer_of_fault(alloc, &fault),
-    }
-}
-
-// The warnings of a text, or that it has none.
-fn answer_of_warnings(alloc: Global, examined: &ExaminedText<'_>) -> Result<String, AllocError> {
-    let warnings = examined.warnings(alloc)?;
-    if warnings.is_empty() {
-        return String::from_str(alloc, "none");
-    }
-    Ok(warnings)
-}
-
-// What a text takes, or its mistakes.
-fn answer_of_sizes(
-    alloc: Global,
+// What is asked of a text.
+fn answer_of<R: Files + Env + Alloc<A = Global>>(
+    rt: &R,
+    question: RowQuestion,
     text: &[u8],
-    examined: &ExaminedText<'_>,
-) -> Result<String, AllocError> {
-    let program = match compile(alloc, text) {
-        Ok(program) => program,
-        Err(fault) => return answer_of_fault(alloc, &fault),
-    };
-    match examined.sizes(alloc, &program) {
-        Ok(sizes) => Ok(sizes),
-        Err(fault) => answer_of_fault(alloc, &fault),
+) -> Result<String, OccamFault> {
+    let alloc = rt.alloc();
+    match question {
+        RowQuestion::Code => code_of_text(rt, text),
+        RowQuestion::Core => answer_of_core(rt, text),
+        RowQuestion::Warnings => {
+            let unit = checked_unit(rt, UnitQuestion::Unit, text)?;
+            if unit.warnings.is_empty() {
+                return Ok(String::from_str(alloc, "none")?);
+            }
+            Ok(lines_of(alloc, unit.warnings.as_slice())?)
+        }
+        RowQuestion::Sizes => {
+            let unit = checked_unit(rt, UnitQuestion::Unit, text)?;
+            let program = program_of(alloc, &unit)?;
+            size_table(alloc, &unit, &program)
+        }
     }
+}
+
+// The code of a text.
+fn code_of_text<R: Files + Env + Alloc<A = Global>>(
+    rt: &R,
+    text: &[u8],
+) -> Result<String, OccamFault> {
+    let unit = checked_unit(rt, UnitQuestion::Unit, text)?;
+    code_of_unit(rt.alloc(), &unit)
+}
+
+fn code_of_unit(alloc: Global, unit: &CoreUnit) -> Result<String, OccamFault> {
+    let program = program_of(alloc, unit)?;
+    let code = bytes_at(alloc, BOOTED, &program, LARGEST_MEMORY)?;
+    Ok(hexadecimal(alloc, code.as_slice())?)
 }
 
 // The core of a text, or that it isn't the same code.
-fn answer_of_core(
-    alloc: Global,
+fn answer_of_core<R: Files + Env + Alloc<A = Global>>(
+    rt: &R,
     text: &[u8],
-    examined: &ExaminedText<'_>,
-) -> Result<String, AllocError> {
-    let core = examined.core_text(alloc)?;
-    let again = code_of_text(alloc, core.as_bytes())?;
-    if again == code_of_text(alloc, text)? {
+) -> Result<String, OccamFault> {
+    let unit = checked_unit(rt, UnitQuestion::UnitWithCore, text)?;
+    let core = core_of(rt.alloc(), &unit)?;
+    let again = code_of_text(rt, core.as_bytes())?;
+    if again == code_of_unit(rt.alloc(), &unit)? {
         Ok(core)
     } else {
-        format!(in alloc; "its core is other code: {again}")
-    }
-}
-
-fn answer_of_program(alloc: Global, program: &OccamProgram) -> Result<String, AllocError> {
-    match bytes_at(alloc, BOOTED, program, LARGEST_MEMORY) {
-        Ok(code) => hexadecimal(alloc, code.as_slice()),
-        Err(fault) => answer_of_fault(alloc, &fault),
-    }
-}
-
-fn answer_of_fault(alloc: Global, fault: &OccamFault<'_>) -> Result<String, AllocError> {
-    match fault {
-        OccamFault::NoMemory => Err(AllocError),
-        fault => format!(in alloc; "{fault}"),
+        Ok(format!(in rt.alloc(); "its core is other code: {again}")?)
     }
 }

@@ -1,15 +1,18 @@
 //! The programs in files: of occam if the name of the file ends with `.occ`, and else of assembly.
 ghost use Rattle.std.specs.Prelude.{◌≤◌};
 
+use crate::front_end::read_program;
 use bootstrap::MOST_BOOTED;
-use lab_command::{LabFailure, WRONG_TEXT, read_file};
+use lab_command::{LabFailure, WRONG_TEXT};
 use lab_debug::ProgramOf;
 use lab_script::is_occam_file;
 use node_trace::{CodePiece, MarkedCode, Program, ProgramVariable, ShownType};
-use occam::{
-    NamedProgram, OccamFault, OccamVariable, PlacedLine, PlacedProgram, VariableType, compile_named,
+use occam_units::{
+    CoreUnit, OccamFault, OccamProgram, PlacedLine, PlacedProgram, VariableType, placed_at,
+    program_of, read_unit,
 };
 use std::alloc::{Alloc, AllocError, Global};
+use std::env::Env;
 use std::fs::Files;
 use t414_assembly::{BOOTED, LOADED, TextFault};
 
@@ -42,21 +45,21 @@ impl WrongProgram {
 }
 
 /// The program in a file, or what is wrong with its text.
-pub fn program_in_file<R: Files + Alloc<A = Global>>(
+pub fn program_in_file<R: Files + Env + Alloc<A = Global>>(
     rt: &R,
     file: &str,
 ) -> Result<Program, LabFailure> {
-    let text = read_file(rt, file)?;
+    let text = read_program(rt, file)?;
     match program_of_text(rt.alloc(), file, text) {
         Ok(program) => Ok(program),
         Err(wrong) => Err(wrong.in_file(rt.alloc(), file)),
     }
 }
 
-/// The program of a text that is in a file of this name.
+/// The program of a text that is in a file of this name; of a file of occam of its unit.
 pub fn program_of_text(alloc: Global, file: &str, text: Vec<u8>) -> Result<Program, WrongProgram> {
     if is_occam_file(file) {
-        compiled_program(alloc, text)
+        compiled_program(alloc, text.as_slice())
     } else {
         assembled_program(alloc, text)
     }
@@ -70,44 +73,36 @@ fn assembled_program(alloc: Global, text: Vec<u8>) -> Result<Program, WrongProgr
     }
 }
 
-fn compiled_program(alloc: Global, text: Vec<u8>) -> Result<Program, WrongProgram> {
-    match marked_text(alloc, text.as_slice()) {
-        Ok((origin, marked)) => Ok(Program::of_marked(text, origin, marked)),
-        Err(wrong) => Err(wrong),
-    }
-}
-
-// The code of an occam text, and its first address. Code that a boot takes begins where a boot puts it, and longer code where
-// it is poked.
-fn marked_text(alloc: Global, text: &[u8]) -> Result<(u32, MarkedCode), WrongProgram> {
-    match compile_named(alloc, text) {
-        Ok(program) => placed_text(alloc, &program, text),
+fn compiled_program(alloc: Global, json: &[u8]) -> Result<Program, WrongProgram> {
+    match read_unit(alloc, json) {
+        Ok(unit) => program_of_unit(alloc, unit),
         Err(fault) => Err(wrong_text(alloc, &fault)),
     }
 }
 
-fn placed_text(
-    alloc: Global,
-    program: &NamedProgram,
-    text: &[u8],
-) -> Result<(u32, MarkedCode), WrongProgram> {
-    let booted = placed_at(alloc, program, BOOTED, text)?;
-    if booted.bytes.len() <= MOST_BOOTED {
-        return Ok((BOOTED, booted));
-    }
-    Ok((LOADED, placed_at(alloc, program, LOADED, text)?))
+// Code that a boot takes begins where a boot puts it, and longer code where it is poked.
+fn program_of_unit(alloc: Global, unit: CoreUnit) -> Result<Program, WrongProgram> {
+    let program = program_of(alloc, &unit)?;
+    let booted = marked_at(alloc, BOOTED, &unit, &program)?;
+    let (origin, marked) = if booted.bytes.len() <= MOST_BOOTED {
+        (BOOTED, booted)
+    } else {
+        (LOADED, marked_at(alloc, LOADED, &unit, &program)?)
+    };
+    let text = Vec::from_slice(alloc, unit.text.as_bytes())?;
+    Ok(Program::of_marked(text, origin, marked))
 }
 
-fn placed_at(
+fn marked_at(
     alloc: Global,
-    program: &NamedProgram,
     origin: u32,
-    text: &[u8],
+    unit: &CoreUnit,
+    program: &OccamProgram,
 ) -> Result<MarkedCode, WrongProgram>
     requires { origin ≤ 0xffff_0000 }
 {
-    match program.placed_at(alloc, origin, text) {
-        Ok(placed) => Ok(marked_of(alloc, placed)?),
+    match placed_at(alloc, origin, unit, program) {
+        Ok(placed) => Ok(marked_of(alloc, placed, unit)?),
         Err(fault) => Err(wrong_text(alloc, &fault)),
     }
 }
@@ -123,10 +118,14 @@ fn wrong_text(alloc: Global, fault: &OccamFault) -> WrongProgram {
     }
 }
 
-fn marked_of(alloc: Global, placed: PlacedProgram) -> Result<MarkedCode, AllocError> {
+fn marked_of(
+    alloc: Global,
+    placed: PlacedProgram,
+    unit: &CoreUnit,
+) -> Result<MarkedCode, AllocError> {
     let pieces = pieces_of(alloc, placed.pieces.as_slice())?;
     let begins = pieces_of(alloc, placed.processes.as_slice())?;
-    let variables = shown_variables(alloc, placed.workspace, placed.variables.as_slice())?;
+    let variables = shown_variables(alloc, placed.workspace, unit)?;
     let PlacedProgram { bytes, .. } = placed;
     Ok(MarkedCode {
         bytes,
@@ -149,21 +148,24 @@ fn pieces_of(alloc: Global, lines: &[PlacedLine]) -> Result<Vec<CodePiece>, Allo
     Ok(pieces)
 }
 
-// The variables of a program whose process has its workspace at an address.
+// The variables that have names, of a program whose process has its workspace at an address.
 fn shown_variables(
     alloc: Global,
     workspace: u32,
-    variables: &[OccamVariable],
+    unit: &CoreUnit,
 ) -> Result<Vec<ProgramVariable>, AllocError> {
     let mut shown = Vec::new(alloc);
-    for variable in variables {
-        shown.push(ProgramVariable {
-            name: String::from_str(alloc, variable.name)?,
-            shown: shown_type(variable.variable_type),
-            line: variable.line,
-            address: workspace.wrapping_add(variable.word.wrapping_mul(4)),
-            length: variable.length,
-        })?;
+    for variable in &unit.variables {
+        if let Some(name) = &variable.name {
+            let word = variable.first.wrapping_add(1);
+            shown.push(ProgramVariable {
+                name: String::from_str(alloc, name.as_str())?,
+                shown: shown_type(variable.variable_type),
+                line: variable.line,
+                address: workspace.wrapping_add(word.wrapping_mul(4)),
+                length: variable.length,
+            })?;
+        }
     }
     Ok(shown)
 }
@@ -185,7 +187,7 @@ pub struct ReadProgram {
 }
 
 /// The programs of nodes in files.
-pub fn read_node_programs<R: Files + Alloc<A = Global>>(
+pub fn read_node_programs<R: Files + Env + Alloc<A = Global>>(
     rt: &R,
     programs: &[ProgramOf],
 ) -> Result<Vec<ReadProgram>, LabFailure> {

@@ -7,10 +7,11 @@ use plan_views::{draw, draw_network};
 use script_replay::{ReplayFault, Replayed, ReplayedFarm, files_loaded, replay};
 use script_text::read_whole;
 use std::alloc::{Alloc, Global};
+use std::env::Env;
 use std::fs::Files;
 
 /// Replays a text, whose lines load files from a folder, or from the one in which the program runs.
-pub fn replay_with_files<'a, R: Files + Alloc<A = Global>>(
+pub fn replay_with_files<'a, R: Files + Env + Alloc<A = Global>>(
     rt: &R,
     folder: Option<&str>,
     text: &'a [u8],

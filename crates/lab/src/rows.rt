@@ -14,6 +14,7 @@ use node_trace::{TraceFault, trace};
 use script_replay::Replayed;
 use script_text::TextWriter;
 use std::alloc::{Alloc, Global};
+use std::env::Env;
 use std::fs::Files;
 
 /// Compares the rows of files. Each wrong row has a line that names its file and line, what it asked, the answer and
@@ -25,7 +26,7 @@ pub fn report_rows(rt: &HostRuntime, asked: &RowFiles) -> Result<Report, LabFail
     report
 }
 
-fn report_files<R: Files + Alloc<A = Global>>(
+fn report_files<R: Files + Env + Alloc<A = Global>>(
     rt: &R,
     files: &[&str],
     meter: &mut TerminalMeter,
@@ -47,7 +48,7 @@ fn report_files<R: Files + Alloc<A = Global>>(
 }
 
 // Compares the rows of a file, and tells whether there are rows and all are right.
-fn report_file<R: Files + Alloc<A = Global>>(
+fn report_file<R: Files + Env + Alloc<A = Global>>(
     rt: &R,
     file: &str,
     meter: &mut TerminalMeter,
@@ -61,7 +62,7 @@ fn report_file<R: Files + Alloc<A = Global>>(
 }
 
 // The answers to the rows of a file, which its name tells how to read.
-fn answer_rows<'a, R: Files + Alloc<A = Global>>(
+fn answer_rows<'a, R: Files + Env + Alloc<A = Global>>(
     rt: &R,
     file: &str,
     text: &'a [u8],
@@ -70,13 +71,13 @@ fn answer_rows<'a, R: Files + Alloc<A = Global>>(
     if file.ends_with(".replay") {
         return answer_replayed(rt, file, text, meter);
     }
-    match answer_lines(rt.alloc(), file, text, meter) {
+    match answer_lines(rt, file, text, meter) {
         Ok(answers) => Ok(answers),
         Err(fault) => Err(wrong_trace(rt.alloc(), fault)),
     }
 }
 
-fn answer_replayed<'a, R: Files + Alloc<A = Global>>(
+fn answer_replayed<'a, R: Files + Env + Alloc<A = Global>>(
     rt: &R,
     file: &str,
     text: &'a [u8],
@@ -89,16 +90,17 @@ fn answer_replayed<'a, R: Files + Alloc<A = Global>>(
 }
 
 // The answers to rows that load no files.
-fn answer_lines<'a>(
-    alloc: Global,
+fn answer_lines<'a, R: Files + Env + Alloc<A = Global>>(
+    rt: &R,
     file: &str,
     text: &'a [u8],
     meter: &mut TerminalMeter,
 ) -> Result<Vec<Answered<'a>>, TraceFault> {
+    let alloc = rt.alloc();
     if file.ends_with(".plans") {
         Ok(try_plans(alloc, text)?)
     } else if file.ends_with(".occam") {
-        Ok(compile_rows(alloc, text)?)
+        Ok(compile_rows(rt, text)?)
     } else if file.ends_with(".assembly") {
         Ok(answer_each(alloc, RowKind::Program, text)?)
     } else if file.ends_with(".mistakes") {

@@ -1,12 +1,14 @@
 //! Scripts with shorthand lines: spelled out, or run.
 
 use crate::failure::wrong_run;
-use lab_command::{LabFailure, ScriptUse, TerminalMeter, WRONG_TEXT, read_file, readable_bytes};
+use crate::front_end::readable_program;
+use lab_command::{LabFailure, ScriptUse, TerminalMeter, WRONG_TEXT, read_file};
 use lab_script::{Expanded, LoadedFile, expand, files_named};
 use lab_words::NumberedLineFault;
 use script_replay::{record_script, run_script};
 use script_text::{TextWriter, divide_at_plan_end, read_whole};
 use std::alloc::{Alloc, AllocError, Global};
+use std::env::Env;
 use std::fs::Files;
 
 /// Does this with the script in a file, or with the one on standard input. The files that it loads have their names from the
@@ -49,7 +51,7 @@ fn print_text(
 }
 
 /// The files that the lines of a script load, as far as they can be read.
-pub fn loaded_files<'a, R: Files + Alloc<A = Global>>(
+pub fn loaded_files<'a, R: Files + Env + Alloc<A = Global>>(
     rt: &R,
     folder: Option<&str>,
     text: &'a [u8],
@@ -134,7 +136,7 @@ fn right_lines(expanded: Expanded) -> Result<String, LabFailure> {
 }
 
 /// The files of these names, from a folder or from the one in which the program runs, as far as they can be read.
-pub fn read_files<'a, R: Files + Alloc<A = Global>>(
+pub fn read_files<'a, R: Files + Env + Alloc<A = Global>>(
     rt: &R,
     folder: Option<&str>,
     names: &[&'a str],
@@ -146,8 +148,8 @@ pub fn read_files<'a, R: Files + Alloc<A = Global>>(
     Ok(files)
 }
 
-// A file with its text, if it can be read.
-fn loaded_file<'a, R: Files + Alloc<A = Global>>(
+// A file with its text, or the unit of its text if that is of occam, if it can be read.
+fn loaded_file<'a, R: Files + Env + Alloc<A = Global>>(
     rt: &R,
     folder: Option<&str>,
     name: &'a str,
@@ -155,7 +157,7 @@ fn loaded_file<'a, R: Files + Alloc<A = Global>>(
     let path = path_of(rt.alloc(), folder, name)?;
     Ok(LoadedFile {
         name,
-        text: readable_bytes(rt, path.as_str())?,
+        text: readable_program(rt, path.as_str())?,
     })
 }
 

@@ -2,7 +2,7 @@
 ghost use Rattle.std.specs.Prelude.{◌≤◌};
 
 use bootstrap::BootFault;
-use occam::{LARGEST_MEMORY, OccamFault, OccamProgram, bytes_at, compile};
+use occam_units::{LARGEST_MEMORY, OccamFault, bytes_at, program_of, read_unit};
 use script_text::TextWriter;
 use std::alloc::{AllocError, Global};
 use std::fmt;
@@ -66,8 +66,8 @@ pub fn is_occam_file(name: &str) -> bool {
 }
 
 /// The lines by which a user loads the program of a file through a host: a boot with its code, or pokes and a boot that jumps
-/// to them if the code is too long for one. A file whose name ends with `.occ` has an occam text, and any other one a text
-/// for the assembler.
+/// to them if the code is too long for one. Of a file whose name ends with `.occ` the text is the unit of its occam text, and any
+/// other one has a text for the assembler.
 pub fn loading_lines(
     alloc: Global,
     user: &str,
@@ -94,26 +94,25 @@ fn code_at(alloc: Global, origin: u32, name: &str, text: &[u8]) -> Result<Vec<u8
     }
 }
 
-fn compiled_code(alloc: Global, origin: u32, text: &[u8]) -> Result<Vec<u8>, LoadFault>
+fn compiled_code(alloc: Global, origin: u32, unit: &[u8]) -> Result<Vec<u8>, LoadFault>
     requires { origin ≤ 0xffff_0000 }
 {
-    match compile(alloc, text) {
-        Ok(program) => program_code(alloc, origin, &program),
-        Err(fault) => Err(occam_fault(alloc, &fault)),
-    }
-}
-
-fn program_code(alloc: Global, origin: u32, program: &OccamProgram) -> Result<Vec<u8>, LoadFault>
-    requires { origin ≤ 0xffff_0000 }
-{
-    match bytes_at(alloc, origin, program, LARGEST_MEMORY) {
+    match unit_code(alloc, origin, unit) {
         Ok(code) => Ok(code),
         Err(fault) => Err(occam_fault(alloc, &fault)),
     }
 }
 
+fn unit_code(alloc: Global, origin: u32, json: &[u8]) -> Result<Vec<u8>, OccamFault>
+    requires { origin ≤ 0xffff_0000 }
+{
+    let unit = read_unit(alloc, json)?;
+    let program = program_of(alloc, &unit)?;
+    bytes_at(alloc, origin, &program, LARGEST_MEMORY)
+}
+
 // The first mistake of an occam text.
-fn occam_fault(alloc: Global, fault: &OccamFault<'_>) -> LoadFault {
+fn occam_fault(alloc: Global, fault: &OccamFault) -> LoadFault {
     match fault {
         OccamFault::NoMemory => LoadFault::Memory,
         fault => match first_line(alloc, fault) {
@@ -123,7 +122,7 @@ fn occam_fault(alloc: Global, fault: &OccamFault<'_>) -> LoadFault {
     }
 }
 
-fn first_line(alloc: Global, fault: &OccamFault<'_>) -> Result<String, AllocError> {
+fn first_line(alloc: Global, fault: &OccamFault) -> Result<String, AllocError> {
     let mistakes = format!(in alloc; "{fault}")?;
     let (first, _) = mistakes
         .as_str()

@@ -3,3 +3,4 @@ pub mod Values
 pub mod Processes
 pub mod Traces
 pub mod Laws
+pub mod Bounds

@@ -1,2 +1,0 @@
--- what must be believed
-pub mod Mistakes
