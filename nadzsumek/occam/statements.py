@@ -31,7 +31,11 @@ class Statements(Procedures):
         if part is not None:
             return self.copy(target.place, *self.array_assignment(part, value))
         name = target if isinstance(target, tree.Name) else target.name
-        element = self.target(target, f"An output is {name.text} ! value")
+        element = self.attempt(self.target, target, f"An output is {name.text} ! value")
+        if element is None:
+            # what is wrong on the other side is told too
+            self.attempt(self.whole, value)
+            return core.Skip()
         return self.assigned(element, self.value_of(value, element.type).value)
 
     def assignments(self, targets: list[tree.Target], values: list[tree.Value]) -> core.Process:
