@@ -10,6 +10,7 @@ set, each text is compiled within bounds of time and memory (`bounded.py`).
 
 from __future__ import annotations
 
+import gc
 import os
 import shutil
 import signal
@@ -63,6 +64,8 @@ def answer_while_open(end: int, folder: str) -> NoReturn:
     nothing = os.open(os.devnull, os.O_RDWR)
     for stream in (0, 1, 2):
         os.dup2(nothing, stream)
+    # what a compilation leaves is given back by counting alone, and to look for circles takes a third of its time
+    gc.disable()
     threading.stack_size(STACK)
     threading.Thread(target=answer_all, args=(folder,), daemon=True).start()
     try:
