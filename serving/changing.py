@@ -255,7 +255,7 @@ class Change:
         self.written()
         up = self.up()
         if up:
-            build("live")
+            build("class", "live")
         stopping = [farm for farm in self.touched if farm in up]
         before = {farm: outs(farm) for farm in stopping}
         begun = time.monotonic()

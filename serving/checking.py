@@ -247,7 +247,7 @@ def check(words):
     kept, exercise = class_in(it.DIR), exercise_in(it.EXERCISE)
     users = [name for names in kept.farms.values() for name in names]
     found, others = programs_in(it.PROGRAMS, users)
-    build("lab")
+    build("class", "lab")
     course = os.path.abspath(it.DIR)
     with ThreadPoolExecutor(os.cpu_count() or 1) as pool:
         rows = [*pool.map(lambda user: row_of(exercise, user, person_of(course, user), found.get(user, [])), users)]

@@ -74,7 +74,7 @@ def make(words):
 def start(folder):
     """Starts each farm that isn't served yet, and waits until it answers."""
     class_in(folder)
-    build("live")
+    build("class", "live", "lab")
     with hold(folder, fcntl.LOCK_SH):
         kept = class_in(folder)
         return do_all([starting(kept, farm, folder, names) for farm, names in kept.farms.items()])

@@ -15,6 +15,8 @@ import time
 import tomllib
 
 TOP = os.path.dirname(os.path.dirname(os.path.abspath(__file__)))
+# Whoever runs a program here says himself whether it is proved, so the programs' own commands don't.
+os.environ["NADZSUMEK_QUIET"] = "yes"
 # The folders of examples that can be loaded, each with the ending of their names.
 EXAMPLES = {".s": os.path.join(TOP, "examples", "programs"), ".occ": os.path.join(TOP, "examples", "occam")}
 OPERATOR = "operator"
@@ -43,25 +45,35 @@ class Refused(Exception):
 def program(name):
     """The path of a program: that of the variable with its name in capitals (LIVE), or else the command at the top. The lab is run
     by its command in any case, which starts the program at LAB, if that is set, with the front end of occam beside it."""
-    given = None if name == "lab" else os.environ.get(name.upper())
-    return os.path.abspath(given or os.path.join(TOP, name))
+    return os.path.abspath((given_path(name) if name != "lab" else None) or os.path.join(TOP, name))
+
+
+def given_path(name):
+    """The program that a variable names; none if what isn't proved is to be refused."""
+    return None if os.environ.get("NADZSUMEK_PROVED") else os.environ.get(name.upper())
+
+
+def start_says(*words, **how):
+    """Whether tools/start has status 0."""
+    call = [os.path.join(TOP, "tools", "start"), *words]
+    return subprocess.run(call, stdin=subprocess.DEVNULL, stdout=subprocess.DEVNULL, check=False, **how).returncode == 0
+
+
+def is_proved(name):
+    """Whether a program is known to be proved, or a variable names one, which is taken as it is."""
+    return bool(given_path(name)) or start_says("--is-built", name, stderr=subprocess.DEVNULL)
 
 
 def is_built(name):
-    """Whether a program can be run without a proof: one that a variable names, or one that is known to be proved."""
-    if os.environ.get(name.upper()):
-        return True
-    call = [os.path.join(TOP, "tools", "start"), "--is-built", name]
-    return subprocess.run(call, stdin=subprocess.DEVNULL, capture_output=True, check=False).returncode == 0
+    """Whether a program can be run at once."""
+    return is_proved(name) or start_says("--is-ready", name)
 
 
-def build(name):
-    """Proves and builds a program if it isn't known to be proved, and shows that. One that a variable names is taken as it is."""
-    if is_built(name):
-        return
-    call = [os.path.join(TOP, "tools", "start"), "--only-build", name]
-    if subprocess.run(call, stdin=subprocess.DEVNULL, stdout=subprocess.DEVNULL, check=False).returncode != 0:
-        raise Refused(f"the program {name} can't be built: see above")
+def build(command, *names):
+    """Sees that a command can run these programs. Those that aren't proved are built without a proof, and that is said."""
+    left = [it for it in names if not is_proved(it)]
+    if left and not start_says("--ready", command, *left):
+        raise Refused(f"{' and '.join(left)} can't be run: see above")
 
 
 def socket_path(folder, name):

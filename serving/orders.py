@@ -80,7 +80,7 @@ def loading(name, host, file):
     """The lines that boot a program: its code, or pokes and a jump if it is too long for a boot."""
     path = found(file)
     try:
-        build("lab")
+        build("connect", "lab")
         code, told = translated(path)
         if code:
             return [f"boot {host} {code[0]}"]

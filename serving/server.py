@@ -15,7 +15,7 @@ import sys
 from . import running
 from .accepting import accept
 from .escapes import escaped
-from .folder import OPERATOR, Folder, Refused, account_name, group_number, is_built, mode_of, program, socket_path
+from .folder import OPERATOR, Folder, Refused, account_name, build, group_number, is_built, is_proved, mode_of, program, socket_path
 from .ports import found_in, ports_told, users_in, wiring_in
 from .reports import Reports, open_streams
 from .rooms import RECORD_ROOM, ROOM, Needed, add_rooms
@@ -46,7 +46,7 @@ class Server:
     def __init__(self, words, reports):
         self.words, self.reports, self.folder = words, reports, Folder(words.DIR, words.sync)
         self.plan = self.folder.plan_to_run(words.PLAN)
-        self.live, self.is_up, self.is_stopping = None, False, False
+        self.live, self.is_up, self.is_stopping, self.is_proved = None, False, False, True
         # set while lines are handed on, or refused since the farm is stopped
         self.goes = asyncio.Event()
         self.starts, self.speakers, self.accepting, self.wirings = running.Starts(), {}, [], {}
@@ -93,6 +93,8 @@ class Server:
             who = self.peer(writer) if speaker.name == OPERATOR else None
             if who:
                 self.reports.say(f"serve: {who} has opened the operator's socket")
+            if not self.is_proved:
+                client.tell(b"note: the program of this farm isn't proved yet\n")
             if not self.is_up:
                 client.tell(b"note: the farm isn't up yet. Lines are answered when it is\n")
             await client.serve(self.send)
@@ -244,6 +246,7 @@ class Server:
 
     async def begin(self):
         """Starts `live`, opens the sockets if they aren't open yet, and says to whom lines go."""
+        self.is_proved = await asyncio.to_thread(is_proved, "live")
         self.live, users = await running.begin(self.call(), self.folder.records, self.begun, self.hear_error)
         if not self.speakers:
             self.open(users)
@@ -418,6 +421,7 @@ def main(given):
         return 1
     reports = Reports()
     try:
+        build("serve", "live")
         return asyncio.run(run(words, reports))
     except Refused as error:
         reports.say(f"serve: {error}")

@@ -121,7 +121,7 @@ def wall(words):
     class_in(it.DIR)
     if os.path.isdir(it.FILE) or not os.path.isdir(os.path.dirname(os.path.abspath(it.FILE))):
         raise Refused(f"there can be no file {it.FILE}: choose another")
-    build("lab")
+    build("class", "lab")
     nodes = Nodes()
     while True:
         written(it.FILE, wall_of(it.DIR, nodes, None if it.once else it.seconds))

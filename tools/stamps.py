@@ -1,8 +1,8 @@
 """What is known of the proof of a program: the one place that decides it for all scripts.
 
 What proves a program leaves a stamp beside it, PROGRAM.proved: the SHA-256 of the program, a digest of all that was proved for it, and
-the toolchain's line. A program is proved if its stamp fits it, these sources and this toolchain; what has no such stamp is proved
-again before it is run. Only `Proof` writes stamps. It is for scripts that prove: it begins before the proof, and sources that change
+the toolchain's line. A program is proved if its stamp fits it, these sources and this toolchain; of what has no such stamp a build without
+a proof is run, which says so (tools/unproved). Only `Proof` writes stamps. It is for scripts that prove: it begins before the proof, and sources that change
 meanwhile get no stamp. A stamp finds mistakes, such as a file that was copied there; anyone who can write there could write one too.
 
 usage, by tools/start: python3 -S tools/stamps.py --is-proved PROGRAM    the status tells it
@@ -23,6 +23,8 @@ from tree import TOP, crate_lines, crates_below, stood_on
 # What of a crate is proved, and what its bytes come from: definitions and proofs leave none in a program.
 PROVED_FOLDERS = ("src", "specs", "proofs")
 BUILT_FOLDERS = ("src",)
+# The variable that has what isn't proved refused, if it is set.
+REFUSING = "NADZSUMEK_PROVED"
 NO_TOOLCHAIN = 'there is no `rt` in the path, which proves and builds programs: README.md says below "What you need" where it comes from'
 
 
@@ -54,6 +56,16 @@ class Known(NamedTuple):
 def own_path(name: str) -> str:
     """Where a program of this tree is."""
     return f"{TOP}/crates/{name}/out/{name}"
+
+
+def unproved_path(name: str) -> str:
+    """Where the build of a program of this tree is that isn't proved."""
+    return f"{TOP}/crates/{name}/out/unproved/{name}"
+
+
+def not_proved(command: str) -> str:
+    """What a command says that runs a program that isn't proved."""
+    return f"{command}: not proved yet: ./prove proves it, some 20 minutes on four cores"
 
 
 def stamp_path(path: str) -> str:
