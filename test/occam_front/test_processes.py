@@ -81,7 +81,12 @@ def test_a_signal_ends_both_quietly(tmp_path, number):
     path.write_text("#!/bin/sh\necho begun\nexec sleep 60\n")
     path.chmod(0o755)
     with subprocess.Popen(
-        [sys.executable, str(ASKING), str(path)], stdout=subprocess.PIPE, stderr=subprocess.PIPE, start_new_session=True
+        [sys.executable, str(ASKING), str(path)],
+        stdout=subprocess.PIPE,
+        stderr=subprocess.PIPE,
+        start_new_session=True,
+        # who runs the tests in the background may have it ignored
+        preexec_fn=lambda: signal.signal(signal.SIGINT, signal.SIG_DFL),
     ) as running:
         assert running.stdout.readline() == b"begun\n"
         time.sleep(0.2)
