@@ -165,6 +165,8 @@ class Reading(ABC):
                 return "A comma is between two values"
             if token.kind == "[":
                 return "A table is sent, named by VAL or given to a PROC"
+            if token.kind == "ELSE":
+                return "ELSE is an option of CASE; the last choice of an IF is TRUE"
             if token.kind in MONADIC or token.kind in TYPES or token.kind == "SIZE":
                 return "An operation as an operand is in parentheses: a + (-1)"
         if token.kind in (")", "]"):
