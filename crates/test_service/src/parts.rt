@@ -148,16 +148,19 @@ pub fn change_the_greatest_count() -> Result<(), Otherwise> {
     };
     let eight = PortRange { first: 0, last: 7 };
     let mut outputs = PlainOutputs::of(words, [Some(eight), None, None, None]);
-    connect(&mut outputs, 3, 2);
-    for output in 0..8u8 {
-        let expected = if output == 2 {
-            0xffff_ffff_ffff_ff83
-        } else {
-            0
-        };
-        holds(outputs.read(output).bits == expected)?;
-    }
-    Ok(())
+    let input = outputs.physical(3);
+    connect(&mut outputs, input, 2);
+    let before = [outputs.read(0), outputs.read(1)];
+    let connected = outputs.read(2);
+    let after = [
+        outputs.read(3),
+        outputs.read(4),
+        outputs.read(5),
+        outputs.read(6),
+        outputs.read(7),
+    ];
+    holds(before == [Word::UNUSED; 2] && after == [Word::UNUSED; 5])?;
+    holds(connected.bits == 0xffff_ffff_ffff_ff83)
 }
 
 // The settings of words, asked for again after a refusal.
