@@ -22,9 +22,17 @@ def code_of(rounds):
     count = "".join(f"2{it}" for it in digits[:-1]) + "4" + digits[-1]
     return (
         "b2"  # ajw 2: to 8000006c
-        "11" "24f2" "54" "41" "f7"  # ldlp 1, mint, ldnlp 4, ldc 1, in
-        + count + "d2"  # ldc rounds, stl 2
-        "72" "608f" "d2" "72" "c0" "60a8"  # ldl 2, adc -1, stl 2, ldl 2, eqc 0, cj back to the first of them
+        "11"
+        "24f2"
+        "54"
+        "41"
+        "f7" + count + "d2"  # ldlp 1, mint, ldnlp 4, ldc 1, in  # ldc rounds, stl 2
+        "72"
+        "608f"
+        "d2"
+        "72"
+        "c0"
+        "60a8"  # ldl 2, adc -1, stl 2, ldl 2, eqc 0, cj back to the first of them
         "21f5"  # stopp
     )
 

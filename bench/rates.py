@@ -30,8 +30,15 @@ def timed(call, text="", cores=None, more=None):
         given.seek(0)
         prepare = None if cores is None else lambda: os.sched_setaffinity(0, cores)
         begun = time.perf_counter_ns()
-        done = subprocess.run(["time", "-f", "%M", "-o", peak.name, *words], stdin=given, stdout=subprocess.PIPE, text=True,
-                              env={**os.environ, **(more or {})}, preexec_fn=prepare, check=True)
+        done = subprocess.run(
+            ["time", "-f", "%M", "-o", peak.name, *words],
+            stdin=given,
+            stdout=subprocess.PIPE,
+            text=True,
+            env={**os.environ, **(more or {})},
+            preexec_fn=prepare,
+            check=True,
+        )
         return time.perf_counter_ns() - begun, done.stdout, int(peak.read()) / 1024
 
 

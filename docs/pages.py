@@ -34,7 +34,11 @@ HEADLINE_PLACES = ("docs/PROMISES.md", "crates/farm_core/src/calls.rt")
 # A line of fewer letters isn't taken for a part of it.
 HEADLINE_PART = 20
 # The comments in plain words: each kind of file, and how a line of its comments begins.
-PLAIN_COMMENTS = (("crates/*/src/**/*.rt", r"\s*//"), ("crates/*/specs/**/*.antt", r"\s*--"), ("crates/*/proofs/**/*.antt", r"\s*--"))
+PLAIN_COMMENTS = (
+    ("crates/*/src/**/*.rt", r"\s*//"),
+    ("crates/*/specs/**/*.antt", r"\s*--"),
+    ("crates/*/proofs/**/*.antt", r"\s*--"),
+)
 
 
 def lines_of(page):
@@ -99,7 +103,8 @@ def headings_of(page):
 
 def wrong_numbers(page):
     """Each number of DECISIONS.md that isn't greater than the one before it in its section, or that is there twice, and each
-    section whose numbers its table doesn't have. A choice is a line `- **N.** ..`: as `N. ..` it would be shown by another number."""
+    section whose numbers its table doesn't have. A choice is a line `- **N.** ..`: as `N. ..` it would be shown by another number.
+    """
     sections, seen, table = {}, set(), {}
     for number, line in lines_of(page):
         heading, row = re.match(r"## (.*)", line), re.match(r"\| ([\d, to]+) \| \[(.*)\]\(", line)
@@ -140,7 +145,8 @@ def links_of(pages):
 
 def quotes_of(top):
     """How many blocks of guides quote a file, and each that doesn't, as page, line and what is wrong. A block of Rust begins with a
-    line `// FILE`, and a block of text may begin with `# FILE`: what follows are lines of that file, one after another."""
+    line `// FILE`, and a block of text may begin with `# FILE`: what follows are lines of that file, one after another.
+    """
     total, wrong = 0, []
     for page in sorted(top.glob("docs/guides/*.md")):
         text = page.read_text(encoding="utf-8")

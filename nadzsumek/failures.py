@@ -12,7 +12,8 @@ class Refused(FarmError):
     """The farm has refused a line. `word` is why: `nosuch`, `journalfull`, `badport`, `badcommand`, `operator`, `verb`, `args`,
     `hex`, `long`, `record`, `journal`, `full`, `memory` or `busy` as the farm says it; `refused` if code is too short or too
     long; `hostfull` if the host took only some of the bytes, and then `taken` is how many. `line` is the line, `answer` its
-    answer, and `number` the number that an `error` gives: that of the line among all lines of the farm's run, else none."""
+    answer, and `number` the number that an `error` gives: that of the line among all lines of the farm's run, else none.
+    """
 
     def __init__(self, word, line, answer, number=None, taken=None, meaning=None):
         super().__init__(f"{line[:60]}: {answer}" + (f" ({meaning})" if meaning else ""))

@@ -5,10 +5,10 @@ import os
 import threading
 import time
 
-from serving import folder as folders
-from serving.connections import opened
-from serving.kept import class_in, place_of
-from serving.ports import ports_of
+from nadzsumek.serving import folder as folders
+from nadzsumek.serving.connections import opened
+from nadzsumek.serving.kept import class_in, place_of
+from nadzsumek.serving.ports import ports_of
 
 from .dialogue import AT_ONCE, Dialogue
 from .failures import NoFarm, NotAnswered
@@ -66,7 +66,7 @@ def connected(folder, name):
 
 def pieces(lines):
     """Lines as they are sent, some at once."""
-    return [lines[at:at + AT_ONCE] for at in range(0, len(lines), AT_ONCE)]
+    return [lines[at : at + AT_ONCE] for at in range(0, len(lines), AT_ONCE)]
 
 
 class Speaking(Verbs):

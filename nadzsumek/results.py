@@ -3,7 +3,7 @@ import dataclasses
 import enum
 import re
 
-from serving.answers import bytes_taken, meaning, refusal, shortfall
+from nadzsumek.serving.answers import bytes_taken, meaning, refusal, shortfall
 
 from .failures import NotAnswered, Refused
 
@@ -81,15 +81,25 @@ def check(line, answer):
     word = refusal(line, answer)
     if word:
         number = re.fullmatch(r"(?:! )?error (\d+) \w+", answer)
-        raise Refused(word, line, answer, int(number[1]) if number else None, bytes_taken(answer) if word == "hostfull" else None,
-                      meaning(answer) or shortfall(line, answer))
+        raise Refused(
+            word,
+            line,
+            answer,
+            int(number[1]) if number else None,
+            bytes_taken(answer) if word == "hostfull" else None,
+            meaning(answer) or shortfall(line, answer),
+        )
 
 
 def look_of(words):
     """A node of the words behind `look NODE`."""
-    state, more = State(words[0]), words[1:words.index("overruns")]
-    return Look(state, int(more[0]) if more else None, int(more[1], 16) if more[1:] else None,
-                tuple(int(it) for it in words[words.index("overruns") + 1:]))
+    state, more = State(words[0]), words[1 : words.index("overruns")]
+    return Look(
+        state,
+        int(more[0]) if more else None,
+        int(more[1], 16) if more[1:] else None,
+        tuple(int(it) for it in words[words.index("overruns") + 1 :]),
+    )
 
 
 def why_of(answers):

@@ -3,9 +3,9 @@ import os
 import tempfile
 import time
 
-from serving.orders import lines_of, loading
-from serving.texts import quoted
-from serving.verbs import Wrong
+from nadzsumek.serving.orders import lines_of, loading
+from nadzsumek.serving.texts import quoted
+from nadzsumek.serving.verbs import Wrong
 
 from .failures import FarmError
 from .results import Loaded, result_of

@@ -11,9 +11,11 @@ from tree import TOP
 # What is called README.md at the top has another name beside the one of docs/.
 OVERVIEW = "OVERVIEW.md"
 LINK = re.compile(r"(!?)\[([^\]]*)\]\(([^)#\s]*)(#[^)\s]*)?\)")
-NOTE = "*Installed below {prefix}: type `farm`, `lab`, `live`, `serve`, `connect` and `class` where a page has `./farm` and so " \
-       "on. Nothing is proved or built here, and no toolchain is needed. Where commands name `examples`, make them available in your " \
-       "folder first: `ln -s {prefix}/lib/nadzsumek/examples examples`. For `PYTHONPATH=.` type `PYTHONPATH={prefix}/lib/nadzsumek`.*"
+NOTE = (
+    "*Installed below {prefix}: type `farm`, `lab`, `live`, `serve`, `connect` and `class` where a page has `./farm` and so "
+    "on. Nothing is proved or built here, and no toolchain is needed. Where commands name `examples`, make them available in your "
+    "folder first: `ln -s {prefix}/lib/nadzsumek/examples examples`. For `PYTHONPATH=.` type `PYTHONPATH={prefix}/lib/nadzsumek`.*"
+)
 
 
 def pages():
@@ -39,6 +41,7 @@ def place_of(target, prefix, places):
 
 def linked(text, page, prefix, places):
     """The text of a page, with links for the place where it is installed."""
+
     def of(link):
         mark, words, path, heading = link.groups()
         if not path or "://" in path:
@@ -60,7 +63,7 @@ def linked(text, page, prefix, places):
 
 
 def main(words):
-    prefix, = words
+    (prefix,) = words
     places = {page: f"{prefix}/share/doc/nadzsumek/{place}" for page, place in pages()}
     for page, place in places.items():
         os.makedirs(os.path.dirname(place), exist_ok=True)

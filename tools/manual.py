@@ -5,8 +5,15 @@ from typing import Optional
 
 # Help begins an entry this far from the left at most; what goes on with one is further right.
 ENTRY = 10
-SECTIONS = {"Commands": "COMMANDS", "Arguments": "ARGUMENTS", "Options": "OPTIONS", "positional arguments": "ARGUMENTS",
-            "options": "OPTIONS", "Example": "EXAMPLE", "a class that is there": "ORDERS"}
+SECTIONS = {
+    "Commands": "COMMANDS",
+    "Arguments": "ARGUMENTS",
+    "Options": "OPTIONS",
+    "positional arguments": "ARGUMENTS",
+    "options": "OPTIONS",
+    "Example": "EXAMPLE",
+    "a class that is there": "ORDERS",
+}
 
 
 class Help:
@@ -22,7 +29,7 @@ class Help:
             first, _, rest = block.partition("\n")
             head = first.rstrip(":")
             if first.lower().startswith("usage:"):
-                self.usage = [it.strip() for it in block[len("usage:"):].split("\n")]
+                self.usage = [it.strip() for it in block[len("usage:") :].split("\n")]
             elif first.endswith(":") and head in SECTIONS:
                 self.parts.append((SECTIONS[head], list(entries(rest))))
             elif not self.about:
@@ -53,7 +60,9 @@ def entries(text: str) -> Iterator[tuple[str, str]]:
 
 def roff(text):
     """A text as troff reads it."""
-    safe = text.replace("\\", "\\e").replace("-", "\\-").replace("'", "\\(aq").replace("`", "\\(ga").replace("~", "\\(ti")
+    safe = (
+        text.replace("\\", "\\e").replace("-", "\\-").replace("'", "\\(aq").replace("`", "\\(ga").replace("~", "\\(ti")
+    )
     safe = safe.replace("^", "\\(ha")
     return f"\\&{safe}" if safe.startswith(".") else safe
 
@@ -79,9 +88,13 @@ def body_of(told):
 def man_page(name, told, below, words, version, more):
     """The page of a command: what it says of itself, what it says of each of its subcommands, the words of the command around
     the program, and where to read on."""
-    lines = [f'.TH {name.upper()} 1 "" "Nadzsumek {version}" "Nadzsumek"',
-             ".\\\" Made by tools/commands from what the programs print for --help.",
-             ".SH NAME", f"{name} \\- {roff(told.about[:1].lower() + told.about[1:])}", ".SH SYNOPSIS"]
+    lines = [
+        f'.TH {name.upper()} 1 "" "Nadzsumek {version}" "Nadzsumek"',
+        '.\\" Made by tools/commands from what the programs print for --help.',
+        ".SH NAME",
+        f"{name} \\- {roff(told.about[:1].lower() + told.about[1:])}",
+        ".SH SYNOPSIS",
+    ]
     for at, call in enumerate(told.usage):
         lines += [*([".br"] if at else []), f"\\fB{roff(call)}\\fR"]
     lines += body_of(told)
@@ -91,9 +104,13 @@ def man_page(name, told, below, words, version, more):
         lines += [f".SH {name.upper()} {word.upper()}", f"{roff(it.about)}.", ".PP", f"\\fB{roff(it.usage[0])}\\fR"]
         for entry, said in [*it.section("ARGUMENTS"), *it.section("OPTIONS")]:
             lines += [".TP", f"\\fB{roff(entry)}\\fR", roff(said or entry)]
-    lines += [".SH FILES", f"\\fI{roff(more)}\\fR in the folder of documents, /usr/share/doc/nadzsumek for Debian's package, or docs/ "
-              "of the sources, tells all of it.", ".SH SEE ALSO",
-              ", ".join(f"\\fB{it}\\fR(1)" for it in ("farm", "live", "lab", "serve", "connect", "class") if it != name)]
+    lines += [
+        ".SH FILES",
+        f"\\fI{roff(more)}\\fR in the folder of documents, /usr/share/doc/nadzsumek for Debian's package, or docs/ "
+        "of the sources, tells all of it.",
+        ".SH SEE ALSO",
+        ", ".join(f"\\fB{it}\\fR(1)" for it in ("farm", "live", "lab", "serve", "connect", "class") if it != name),
+    ]
     return "".join(f"{line}\n" for line in lines)
 
 
@@ -108,7 +125,7 @@ def options_of(entry_list):
     return names, wanting
 
 
-COMPLETION = '''# Completion of bash for farm, live, lab, serve, connect and class. Made by tools/commands from what they print for --help.
+COMPLETION = """# Completion of bash for farm, live, lab, serve, connect and class. Made by tools/commands from what they print for --help.
 
 _nadzsumek_options() {
   case $1 in
@@ -196,7 +213,7 @@ _nadzsumek() {
 }
 
 complete -o filenames -F _nadzsumek farm live lab serve connect class
-'''
+"""
 
 
 def completion(texts, words, orders, more):
@@ -204,15 +221,23 @@ def completion(texts, words, orders, more):
     first. Subcommands without a help of their own are those of `orders`, with their options."""
     options = {}
     for call, told in texts.items():
-        names, wanting = options_of([*told.section("OPTIONS"), *(more.get(call[0], {}).items() if len(call) == 1 else ())])
+        names, wanting = options_of(
+            [*told.section("OPTIONS"), *(more.get(call[0], {}).items() if len(call) == 1 else ())]
+        )
         options[call] = {it: it in wanting for it in names}
     for name, all_of in orders.items():
         options.update({(name, word): told for word, told in all_of.items()})
 
     def cases(rows):
-        return "".join(f"    {label.replace(' ', chr(92) + ' ')}) echo '{' '.join(it)}' ;;\n" for label, it in rows.items() if it)
+        return "".join(
+            f"    {label.replace(' ', chr(92) + ' ')}) echo '{' '.join(it)}' ;;\n" for label, it in rows.items() if it
+        )
 
     labels = {" ".join(call): told for call, told in options.items()}
     values = {label: [it for it, wants in told.items() if wants] for label, told in labels.items()}
     first = {**words, **{name: list(it) for name, it in orders.items()}}
-    return COMPLETION.replace("@OPTIONS@", cases(labels)).replace("@VALUES@", cases(values)).replace("@WORDS@", cases(first))
+    return (
+        COMPLETION.replace("@OPTIONS@", cases(labels))
+        .replace("@VALUES@", cases(values))
+        .replace("@WORDS@", cases(first))
+    )

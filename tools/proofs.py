@@ -37,7 +37,11 @@ def lock_alone(file: TextIO | int) -> None:
     try:
         fcntl.flock(file, fcntl.LOCK_EX | fcntl.LOCK_NB)
     except BlockingIOError:
-        print("another build is at work here: this one waits until that has ended, or until Ctrl-C", file=sys.stderr, flush=True)
+        print(
+            "another build is at work here: this one waits until that has ended, or until Ctrl-C",
+            file=sys.stderr,
+            flush=True,
+        )
         fcntl.flock(file, fcntl.LOCK_EX)
 
 
@@ -77,7 +81,10 @@ def most_jobs() -> int:
 
 def kilobytes(name: str, folder: str) -> float:
     """How much stands in a folder of a crate."""
-    return sum(os.path.getsize(f"{at}/{it}") for at, _, names in os.walk(f"{TOP}/crates/{name}/{folder}") for it in names) / 1000
+    return (
+        sum(os.path.getsize(f"{at}/{it}") for at, _, names in os.walk(f"{TOP}/crates/{name}/{folder}") for it in names)
+        / 1000
+    )
 
 
 def seconds_of(name: str) -> float:
@@ -158,7 +165,9 @@ class Proving:
                 return ended
 
 
-def prove_all(wanted: set[str], most: int, below: dict[str, list[str]], prove: Callable[[str, int, int], Proved]) -> bool:
+def prove_all(
+    wanted: set[str], most: int, below: dict[str, list[str]], prove: Callable[[str, int, int], Proved]
+) -> bool:
     """Proves the crates, the longest chain first, by so many jobs, and tells whether all are proved. `prove` takes a crate,
     its jobs, and how far the system may put it back; it gives whether that went well, what was printed, and seconds. Programs get
     their stamps; one without is as one that isn't proved."""

@@ -1,0 +1,115 @@
+"""The lines of `connect -c`, and those of standard input with `--json`: only their own answers are printed, whoever else speaks as
+this user, and the status says whether one was refused."""
+import json
+import os
+import sys
+
+from nadzsumek import Farm, NoFarm, NotAnswered
+from nadzsumek.results import plain, result_of
+from nadzsumek.verbs import Question
+
+from .answers import Loading, meaning, refusal, shortfall, with_meaning
+from .connections import NO_FARM, REFUSED
+from .escapes import escaped
+from .folder import Refused
+from .loads import Hindered, check_load
+from .orders import lines_of, split, table_of
+from .ports import joins_told, wiring_of
+from .verbs import Wrong, help_lines
+
+# What divides the lines of a text of several.
+LINES = "\n"
+
+
+class Asking:
+    """A user's lines, whose answers are printed as at a terminal, or in JSON."""
+
+    def __init__(self, folder, user, is_json, is_checked):
+        self.folder, self.user, self.is_json, self.is_checked, self.status = folder, user, is_json, is_checked, 0
+        self.ports, self.wiring = user.ports, wiring_of(folder, user.name)
+
+    def show(self, texts, **fields):
+        """Prints lines of text, or in JSON an object with these fields."""
+        for text in [json.dumps(fields)] if self.is_json else texts:
+            print(escaped(text), flush=True)
+
+    def show_answer(self, line, asked, answers, loading):
+        """Prints the answer to one of the lines that a line sends."""
+        for at, answer in enumerate(answers):
+            texts, word = loading.told(asked, answer) if loading else with_meaning(asked, answer), refusal(
+                asked, answer
+            )
+            texts += joins_told(answer, self.wiring) if asked == "ports" and self.wiring and not word else []
+            more = {"meaning": meaning(answer) or shortfall(asked, answer)} if word else {}
+            if not word and at == len(answers) - 1:
+                more["result"] = plain(result_of(answers))
+            if texts:
+                self.show(texts, line=line, answer=answer, refused=word, **more)
+            self.status = REFUSED if word else self.status
+
+    def show_fault(self, line, word, why):
+        """Says why a line has no answer."""
+        self.status = REFUSED
+        if self.is_json:
+            self.show([], line=line, answer=None, refused=word, meaning=why)
+        else:
+            print(f"error: {escaped(why, LINES)}", file=sys.stderr, flush=True)
+
+    def ask(self, line):
+        """Sends what a line asks for, and prints the answers."""
+        sent = lines_of(self.user.name, line, self.ports)
+        loading = Loading() if len(sent) > 1 else None
+        # only what follows says how many lines an answer about users has
+        more = ["!words"] if sent == ["!users"] else []
+        for asked, answers in zip(sent, self.user.do(Question(sent + more, lambda it: it, strict=False))):
+            self.show_answer(line, asked, answers, loading)
+
+    def do(self, line):
+        """Does one line; false if it is the last."""
+        try:
+            first, _, words = split(self.user.name, line, self.ports)
+            if first == "help":
+                texts = help_lines(table_of(self.user.name, self.ports), words[0] if words else None)
+                self.show(texts, line=line, help=texts)
+            elif first != "quit":
+                if first == "load" and self.is_checked:
+                    lines_of(self.user.name, line, self.ports)
+                    check_load(self.folder, self.user.name, self.wiring, int(words[0]), words[1])
+                self.ask(line)
+            return first != "quit"
+        except Hindered as hindered:
+            self.show_fault(line, hindered.word, f"{hindered}")
+        except Wrong as wrong:
+            self.show_fault(line, "wrong", f"{wrong}")
+        except NotAnswered as late:
+            self.show_fault(line, "unanswered", f"{late}")
+        except NoFarm:
+            if first != "stop":
+                raise
+            return False
+        return True
+
+
+def run(folder, name, words):
+    """Does the lines of the words as this user, or those of standard input if there are none; the status."""
+    asking = None
+
+    def noted(note):
+        asking.show(with_meaning(None, note.text), note=note.text)
+
+    try:
+        with Farm(folder).user(name, noted) as user:
+            asking = Asking(folder, user, words.json, not words.unchecked)
+            for line in words.c or sys.stdin:
+                text = line.strip()
+                if text and not text.startswith("#") and not asking.do(text):
+                    break
+            return asking.status
+    except NoFarm as error:
+        if asking is None:
+            raise Refused(f"{error}") from None
+        print(f"error: {escaped(str(error))}", file=sys.stderr)
+        return NO_FARM
+    except BrokenPipeError:
+        os.dup2(os.open(os.devnull, os.O_WRONLY), sys.stdout.fileno())
+        return REFUSED

@@ -1,0 +1,319 @@
+"""A change of a class: its files, and the farms that are stopped and started for it. After a refusal all is as it was."""
+import contextlib
+import fcntl
+import os
+import re
+import shlex
+import shutil
+import signal
+import time
+
+from .folder import CLASS, FOLDER_MODE, PLAN, Refused, account_name, build, is_locked, made
+from .holders import serve_of
+from .kept import class_in
+from .places import parts_of, text_of
+from .records import records_of
+from .sheets import count
+from .status import ask_operator
+from .supervising import Awaited, AwaitedChange, supervisor_of
+from .upkeep import INTERRUPTED, Start, Stop, all_done, say
+
+# Which units of systemd run the farms of a class.
+UNIT = re.compile(r"class@.*\.service")
+# The line between the plan of a record and its events, and how many bytes its plan has at most.
+DIVIDER, MOST_HEAD = b"\n---\n", 1 << 16
+OWN = 0o600
+ANSWER_SECONDS = 10
+
+
+class StopForChange(Stop):
+    """A farm that is stopped for a moment, which its users are told first."""
+
+    LINES = (
+        b"!tell a student comes or goes, so this farm is stopped. It goes on where it was in a moment: connect again then\n"
+        b"!stop\n"
+    )
+
+
+@contextlib.contextmanager
+def hold(course, how):
+    """Holds a class, for this process alone (LOCK_EX) or beside others that start and stop its farms (LOCK_SH)."""
+    file = os.open(course, os.O_RDONLY | os.O_DIRECTORY)
+    try:
+        fcntl.flock(file, how | fcntl.LOCK_NB)
+        yield
+    except BlockingIOError:
+        raise Refused(f"another class is at work at {course}: wait until it has ended") from None
+    finally:
+        os.close(file)
+
+
+@contextlib.contextmanager
+def changing(course):
+    """A change of a class that no other process changes, starts or stops meanwhile."""
+    class_in(course)
+    with hold(course, fcntl.LOCK_EX):
+        yield Change(course)
+
+
+@contextlib.contextmanager
+def undisturbed():
+    """Passes over Ctrl-C and other signals that would end this, so that nothing is left half done."""
+    before = {it: signal.signal(it, lambda *_: None) for it in (signal.SIGINT, signal.SIGTERM, signal.SIGHUP)}
+    try:
+        yield
+    finally:
+        for it, does in before.items():
+            signal.signal(it, does)
+
+
+def unit_of(number):
+    """The unit of systemd by which a farm of a class runs; none if it runs otherwise."""
+    with contextlib.suppress(OSError):
+        with open(f"/proc/{number}/cgroup", encoding="utf-8") as it:
+            return next((name for line in it if UNIT.fullmatch(name := os.path.basename(line.strip()))), None)
+    return None
+
+
+def starting(kept, farm, course, users, supervised=Awaited):
+    """The start of a farm: by the supervisor of its class, if there is one."""
+    kind = Start if supervisor_of(course) is None else supervised
+    return kind(farm, course, len(users), [*kept.rights, *kept.rooms.words()])
+
+
+def rewritten(path, text):
+    """Writes a file anew, with the mode that it had. None removes it."""
+    if text is None:
+        os.unlink(path)
+        return
+    with open(f"{path}.new", "wb") as it:
+        it.write(text)
+    if os.path.exists(path):
+        shutil.copymode(path, f"{path}.new")
+    os.replace(f"{path}.new", path)
+
+
+def contents(path):
+    """What a file has; none if it isn't there."""
+    try:
+        with open(path, "rb") as it:
+            return it.read()
+    except FileNotFoundError:
+        return None
+
+
+def copied(path, old, name, new):
+    """Copies a record under a new path, with another name of its user in its plan."""
+    with open(path, "rb") as here, open(os.open(new, os.O_WRONLY | os.O_CREAT | os.O_EXCL, OWN), "wb") as there:
+        head, divider, rest = here.read(MOST_HEAD).partition(DIVIDER)
+        there.write(head.replace(b'name = "%s"' % old.encode(), b'name = "%s"' % name.encode(), 1) if divider else head)
+        there.write(divider + rest)
+        shutil.copyfileobj(here, there)
+
+
+def number_of(path, name):
+    """The number of a record among those of a user."""
+    return int(os.path.basename(path).removesuffix(".replay")[len(name) + 1 :] or 1)
+
+
+def outs(farm):
+    """The users whose records couldn't be taken."""
+    try:
+        answers = ask_operator(farm, "!users", ANSWER_SECONDS)
+    except OSError as error:
+        raise Refused(
+            f"{os.path.basename(farm)} is up, but its operator isn't answered ({error.strerror or error}): try again "
+            "when class status shows it"
+        ) from None
+    return {words[1] for it in answers if "out" in (words := it.split(" "))[5:]}
+
+
+class Change:
+    """What is to become of a class. Until it is done nothing is written."""
+
+    def __init__(self, course):
+        self.course, self.kept = os.path.abspath(course), class_in(course)
+        owner = os.stat(os.path.join(self.course, CLASS)).st_uid
+        if owner != os.geteuid():
+            raise Refused(
+                f"the class belongs to the account {account_name(owner)}: runuser -u {account_name(owner)} -- class .."
+            )
+        self.farms = {farm: [*names] for farm, names in self.kept.farms.items()}
+        self.removed, self.earlier = dict(self.kept.removed), dict(self.kept.earlier)
+        self.parts, self.touched, self.files = {}, [], {}
+        # the records that begin, each with the one of which it is a copy under another name; and whose records begin
+        self.records, self.fresh = {}, []
+        self.before, self.made = {}, []
+
+    def of(self, farm):
+        """The parts of a farm's plan, as they are to be."""
+        if farm not in self.parts:
+            self.parts[farm] = parts_of(farm, self.kept.farms[farm]) if farm in self.kept.farms else []
+        return self.parts[farm]
+
+    def machine(self):
+        """What each new student gets. An earlier version hasn't kept it."""
+        if self.kept.machine is None:
+            farm = next(iter(self.kept.farms), None)
+            if farm is None:
+                raise Refused(f"there is no student in {self.course}: make a new class")
+            return self.of(farm)[0].machine
+        return self.kept.machine
+
+    def part(self, user):
+        """The part of a student."""
+        return next(it for it in self.of(self.kept.farm_of(user)) if it.name == user)
+
+    def put(self, farm, part, at=None):
+        """Puts a student into a farm: behind all others, or where one was taken out."""
+        self.of(farm).append(part)
+        names = self.farms.setdefault(farm, [])
+        names.insert(len(names) if at is None else at, part.name)
+        self.parts[farm].sort(key=lambda it: names.index(it.name))
+        self.touch(farm)
+
+    def take(self, farm, user):
+        """Takes a student out of a farm, which is none of the class any more if nobody else is in it. Where he was."""
+        self.parts[farm] = [it for it in self.of(farm) if it.name != user]
+        at = self.farms[farm].index(user)
+        del self.farms[farm][at]
+        self.touch(farm)
+        return at
+
+    def touch(self, farm):
+        if farm not in self.touched:
+            self.touched.append(farm)
+
+    def begin_anew(self, farm, user):
+        """Lets the next record of a student begin, if he has any: an empty one is a beginning."""
+        paths = records_of(os.path.join(farm, "records"), user)
+        if paths:
+            path = os.path.join(farm, "records", f"{user}.{number_of(paths[-1], user) + 1}.replay")
+            self.records[path] = None
+            return path
+        return os.path.join(farm, "records", f"{user}.replay")
+
+    def written(self):
+        """Adds the plans and what is kept to the files."""
+        for farm in self.touched:
+            text = text_of(self.of(farm)).encode()
+            if self.of(farm):
+                self.files[os.path.join(farm, "plan.toml")] = text
+                if os.path.exists(os.path.join(farm, PLAN)):
+                    self.files[os.path.join(farm, PLAN)] = text
+            else:
+                del self.farms[farm]
+        after = self.kept._replace(farms=self.farms, machine=self.machine(), removed=self.removed, earlier=self.earlier)
+        self.files[os.path.join(self.course, CLASS)] = after.text().encode()
+
+    def apply(self):
+        """Writes all files. No farm that is touched is up."""
+        self.fresh = [
+            (farm, {*records_of(os.path.join(farm, "records"), it.name)}, it.name)
+            for farm in self.touched
+            for it in self.of(farm)
+            if it.name not in self.kept.farms.get(farm, [])
+        ]
+        for path, source in self.records.items():
+            if source is None:
+                with open(os.open(path, os.O_WRONLY | os.O_CREAT | os.O_EXCL, OWN), "wb"):
+                    pass
+            else:
+                copied(*source, path)
+        for path, text in self.files.items():
+            folder = os.path.dirname(path)
+            if not os.path.isdir(folder):
+                self.made += made(folder, FOLDER_MODE)
+            self.before[path] = contents(path)
+            rewritten(path, text)
+
+    def undo(self):
+        """Makes all as it was."""
+        for path, text in self.before.items():
+            if text is not None or os.path.exists(path):
+                rewritten(path, text)
+        news = [
+            path
+            for farm, before, name in self.fresh
+            for path in {*records_of(os.path.join(farm, "records"), name)} - before
+        ]
+        for path in {*self.records, *news}:
+            with contextlib.suppress(FileNotFoundError):
+                os.unlink(path)
+        for folder in reversed(self.made):
+            shutil.rmtree(folder, ignore_errors=True)
+
+    def settle(self):
+        """Removes the records that go on under another name."""
+        for source in self.records.values():
+            if source is not None:
+                os.unlink(source[0])
+
+    def start_of(self, farm, users, supervised=AwaitedChange):
+        """The start of a farm: by the supervisor of the class, if it has one."""
+        return starting(self.kept, farm, self.course, users, supervised)
+
+    def up(self):
+        """The farms that are up, if the class may stop and start those that it touches."""
+        up = [farm for farm in self.kept.farms if is_locked(farm)]
+        for farm in (it for it in up if it in self.touched and supervisor_of(self.course) is None):
+            unit = unit_of(serve_of(farm))
+            if unit:
+                raise Refused(
+                    f"{os.path.basename(farm)} is run by the unit {unit}: systemctl stop {shlex.quote(unit)} first, "
+                    "and start it after that"
+                )
+        return up
+
+    def carry_out(self):
+        """Does it: the farms that it touches are stopped, the files written, and if the class is up they are started. The
+        status."""
+        self.written()
+        up = self.up()
+        if up:
+            build("class", "live")
+        stopping = [farm for farm in self.touched if farm in up]
+        before = {farm: outs(farm) for farm in stopping}
+        begun = time.monotonic()
+        with undisturbed():
+            try:
+                failed = all_done([StopForChange(farm, self.course) for farm in stopping])
+                if failed:
+                    raise Refused("\n".join(f"{it.name}: {it.outcome[1]}" for it in failed))
+                self.apply()
+            except (OSError, Refused) as error:
+                self.go_back(stopping)
+                raise Refused(f"{error}\nall is as it was") from None
+        starts = [self.start_of(farm, self.farms[farm]) for farm in self.touched if up and farm in self.farms]
+        return self.started(starts, stopping, before, begun)
+
+    def started(self, starts, stopping, before, begun):
+        """Starts farms, and says how long each was away. If one can't be started, or a record can't be taken any more, all is
+        made as it was."""
+        try:
+            wrong = [f"{it.name}: {it.outcome[1]}" for it in all_done(starts)]
+            wrong += [
+                f"{it.name}: the record of {', '.join(sorted(more))} can't be taken, see {it.log}"
+                for it in starts
+                if not wrong and (more := outs(it.folder) - before.get(it.folder, set()))
+            ]
+        except KeyboardInterrupt:
+            self.settle()
+            for it in starts:
+                say(f"{it.name}: {it.outcome[1] if it.outcome else it.left()}")
+            return INTERRUPTED
+        if wrong:
+            with undisturbed():
+                all_done([Stop(it.folder, self.course) for it in starts])
+                self.go_back(stopping)
+            raise Refused("\n".join([*wrong, "all is as it was"]))
+        self.settle()
+        for it in starts:
+            away = f", and was away for {time.monotonic() - begun:.1f} s" if it.folder in stopping else ""
+            say(f"{it.name}: up, {count(it.users, 'user')}{away}")
+        return 0
+
+    def go_back(self, stopping):
+        """Makes all as it was, and starts the farms that were up."""
+        self.undo()
+        all_done([self.start_of(farm, self.kept.farms[farm], Awaited) for farm in stopping])

@@ -1,0 +1,280 @@
+"""What the students' programs do in an exercise: each test is a script that `lab run` does on one thread, in a farm of its own."""
+import argparse
+import os
+import re
+import shutil
+import subprocess
+import tempfile
+from concurrent.futures import ThreadPoolExecutor
+from typing import NamedTuple
+
+from nadzsumek.occam.asking import BOUNDED
+
+from .coming import person_of
+from .escapes import escaped
+from .exercises import LANGUAGES, MOST_STEPS, OWN_FOLDER, exercise_in, is_own
+from .folder import Refused, build, program
+from .kept import class_in
+from .marks import as_csv, as_page, as_table
+from .places import VERSION
+from .plans import user_name
+
+# The user whose machine it is, and the file in which a test is.
+USER, SCRIPT = "student", "test.farm"
+# How long a test may take, whatever it does, and how large a program may be.
+SECONDS, MOST_BYTES = 60, 1 << 20
+# The status of `lab` that had to do more Steps than it may.
+TOO_MANY = 7
+OCCAM, LINE_END = ".occ", "\n"
+OK, WRONG, LONG, NONE = "ok", "wrong", "too long", "-"
+# How many lines of `lab why` are kept.
+MOST_WHY = 12
+
+
+class Outcome(NamedTuple):
+    """What came of a test: OK, WRONG, LONG, or NONE if it wasn't done; how many Steps it took, what was wrong, and why that was."""
+
+    result: str
+    steps: int | None = None
+    remark: str = ""
+    why: str = ""
+
+
+class Row(NamedTuple):
+    """A student, the program, what came of each test, and the points."""
+
+    user: str
+    person: str
+    program: str
+    outcomes: tuple
+    points: int
+    remark: str
+
+
+def lab(folder, *words, text=None):
+    """The status of the lab, what it prints and what it says; no status if it took too long."""
+    try:
+        # a student's text of occam is compiled within bounds
+        done = subprocess.run(
+            [program("lab"), *words],
+            cwd=folder,
+            stdin=subprocess.DEVNULL if text is None else None,
+            input=text,
+            env={**os.environ, BOUNDED: "yes"},
+            capture_output=True,
+            timeout=SECONDS,
+            check=False,
+        )
+    except subprocess.TimeoutExpired:
+        return None, "", f"it took more than {SECONDS} seconds"
+    return done.returncode, done.stdout.decode(errors="replace"), done.stderr.decode(errors="replace").strip()
+
+
+def programs_in(folder, users):
+    """The files or folders of each student in a folder, and those that are nobody's."""
+    found, others = {}, []
+    try:
+        entries = sorted(os.listdir(folder))
+    except OSError as error:
+        raise Refused(f"the folder of programs {folder} can't be read: {error.strerror}") from None
+    for entry in entries:
+        path = os.path.join(folder, entry)
+        stem, ending = (entry, "") if os.path.isdir(path) else os.path.splitext(entry)
+        user = user_name(stem)[0]
+        if user in users and (os.path.isdir(path) or ending in LANGUAGES):
+            found.setdefault(user, []).append(path)
+        elif not entry.startswith("."):
+            others.append(entry)
+    return found, others
+
+
+def copied(source, target):
+    """Copies a program, which must be a file of a usual size."""
+    if not os.path.isfile(source):
+        raise Refused(f"there is no file {os.path.basename(source)}")
+    if os.path.getsize(source) > MOST_BYTES:
+        raise Refused(f"{os.path.basename(source)} has more than {MOST_BYTES} bytes")
+    os.makedirs(os.path.dirname(target), exist_ok=True)
+    shutil.copyfile(source, target)
+
+
+def in_folder(folder, name):
+    """The file of a program in a student's folder. If its name has no ending, it is in the language that the student chose."""
+    if os.path.splitext(name)[1]:
+        return os.path.join(folder, name)
+    there = [it for it in (name + ending for ending in LANGUAGES) if os.path.exists(os.path.join(folder, it))]
+    if len(there) > 1:
+        raise Refused(f"there are {' and '.join(there)}, and one of them is wanted")
+    if not there:
+        raise Refused(f"there is no file {' or '.join(name + ending for ending in LANGUAGES)}")
+    return os.path.join(folder, there[0])
+
+
+def gathered(exercise, paths, room):
+    """Copies the programs of an exercise and of a student into a folder; the names of those of the student, and of their files."""
+    own = {}
+    file = next((it for it in paths if not os.path.isdir(it)), None)
+    folder = next((it for it in paths if os.path.isdir(it)), None)
+    if len(paths) > (file is not None) + (folder is not None):
+        raise Refused(f"there are {' and '.join(os.path.basename(it) for it in paths)}, and one of them is wanted")
+    for name in exercise.files():
+        if not is_own(name):
+            copied(os.path.join(exercise.folder, name), os.path.join(room, name))
+            continue
+        source = (
+            file
+            if file and not name.startswith(OWN_FOLDER)
+            else in_folder(folder or room, name.removeprefix(OWN_FOLDER))
+        )
+        stem, wanted = os.path.splitext(name)
+        ending = os.path.splitext(source)[1]
+        if wanted not in ("", ending):
+            raise Refused(
+                f"{os.path.basename(source)} is a program in {LANGUAGES[ending]}, and {LANGUAGES[wanted]} is wanted"
+            )
+        copied(source, os.path.join(room, stem + ending))
+        own[name] = stem + ending
+    return own
+
+
+def check_programs(own, room):
+    """Refuses programs that can't be compiled or assembled."""
+    for file in own.values():
+        if file.endswith(OCCAM):
+            status, _, told = lab(room, "occam", file, "--listing")
+        else:
+            with open(os.path.join(room, file), "rb") as it:
+                status, _, told = lab(room, "assemble", "--listing", text=it.read())
+        if status != 0:
+            where = f"{file.removeprefix(OWN_FOLDER)}: " if file.startswith(OWN_FOLDER) else ""
+            raise Refused(f"{where}{told.partition(LINE_END)[0] or 'it can not be assembled'}")
+
+
+def line_of(sent, own):
+    """A line as it is done: a program of the student is loaded from its file."""
+    load, _, name = sent.rpartition(" ")
+    return f"{load} {own[name]}" if sent.startswith("load ") and name in own else sent
+
+
+def script_of(exercise, test, own):
+    """The plan and the lines of a test."""
+    machine = exercise.machine
+    plan = VERSION + machine.domain(USER, [[0, machine.ports() - 1]])
+    return plan + "---\n" + "".join(f"{USER} {line_of(line.sent, own)}\n" for line in test.lines)
+
+
+def shown(content):
+    """Bytes as they are shown: digits, and the text if it can be printed."""
+    if not content:
+        return "nothing"
+    text = content.decode("ascii", errors="replace")
+    more = f' "{escaped(text)}"' if all(it.isprintable() and it != "\ufffd" or it in "\n\r\t" for it in text) else ""
+    return f"{content.hex()}{more}"
+
+
+def wrong_in(test, answers):
+    """What is the first that a test expects otherwise; none if all came."""
+    told = iter([it for it in answers if it.split(" ")[1:2] in (["collect"], ["look"])])
+    for line in test.lines:
+        if not line.kind:
+            continue
+        words = next(told, f"{USER} collect 0 -").split(" ")
+        if line.kind == "bytes":
+            came = b"" if words[3] == "-" or not re.fullmatch(r"([0-9a-f]{2})+", words[3]) else bytes.fromhex(words[3])
+            if came != line.wanted:
+                return f"line {line.number}: {shown(line.wanted)} is expected, and {shown(came)} came"
+        else:
+            state = " ".join(words[3 : words.index("overruns")]) if "overruns" in words else "gone"
+            if state != line.wanted and not (line.wanted == "halted" and state.startswith("halted ")):
+                return f"line {line.number}: node {words[2]} is expected to be {line.wanted}, and is {state}"
+    return None
+
+
+def steps_in(record):
+    """How many Steps a record has."""
+    return sum(int(times or 1) for times in re.findall(r"^(?:(\d+) times )?0 step \d+ @farm\b", record, re.MULTILINE))
+
+
+def tried(exercise, test, room, own):
+    """What comes of a test of the programs in a folder, among which those of the student have these files."""
+    with open(os.path.join(room, SCRIPT), "w", encoding="utf-8") as it:
+        it.write(script_of(exercise, test, own))
+    # whether a node has one Step more to do is asked with one Step more
+    bound = ["--steps", f"{test.steps + 1}"]
+    status, printed, told = lab(room, "run", SCRIPT, *bound)
+    if status is None:
+        return Outcome(LONG, remark=told)
+    if status not in (0, TOO_MANY):
+        return Outcome(WRONG, remark=told or f"lab ended with status {status}")
+    _, record, _ = lab(room, "run", SCRIPT, "--record", "0", *bound)
+    steps = steps_in(record)
+    if status == TOO_MANY or steps > test.steps:
+        return Outcome(LONG, remark=f"it took more than {test.steps} Steps")
+    wrong = wrong_in(test, printed.splitlines())
+    return Outcome(OK, steps) if wrong is None else Outcome(WRONG, steps, wrong, why_of(record, room))
+
+
+def why_of(record, room):
+    """What each node waits for at the end of a record; nothing if that isn't known."""
+    with open(os.path.join(room, "test.replay"), "w", encoding="utf-8") as it:
+        it.write(record)
+    status, told, _ = lab(room, "why", "test.replay", "--steps", f"{2 * MOST_STEPS}")
+    return "\n".join(told.splitlines()[1 : MOST_WHY + 1]) if status == 0 else ""
+
+
+def row_of(exercise, user, person, paths):
+    """The row of a student."""
+    none = tuple(Outcome(NONE) for _ in exercise.tests)
+    if not paths:
+        return Row(user, person, "-", none, 0, "there is no program")
+    name = " ".join(os.path.basename(it) for it in paths)
+    with tempfile.TemporaryDirectory() as room:
+        try:
+            own = gathered(exercise, paths, room)
+            check_programs(own, room)
+        except (Refused, OSError) as error:
+            return Row(user, person, name, none, 0, f"{error}")
+        outcomes = tuple(tried(exercise, it, room, own) for it in exercise.tests)
+    points = sum(test.points for test, it in zip(exercise.tests, outcomes) if it.result == OK)
+    remark = next((f"{test.name}: {it.remark}" for test, it in zip(exercise.tests, outcomes) if it.remark), "")
+    return Row(user, person, name, outcomes, points, remark)
+
+
+def written(path, text):
+    """Writes a file, whole or not at all."""
+    with open(f"{path}.new", "w", encoding="utf-8", errors="backslashreplace", newline="") as it:
+        it.write(text)
+    os.replace(f"{path}.new", path)
+
+
+def check(words):
+    """Tries the programs of a class in an exercise."""
+    it = argparse.ArgumentParser(
+        prog="class check",
+        usage="class check [--csv FILE] [--html FILE] DIR EXERCISE PROGRAMS",
+        description="Tries what the students of a class have written for an exercise, in farms of its " "own.",
+    )
+    it.add_argument("--csv", metavar="FILE", help="writes the table into this file too, for a spreadsheet")
+    it.add_argument("--html", metavar="FILE", help="writes a page for a browser too, with what came and why")
+    it.add_argument("DIR", help="the folder of the class")
+    it.add_argument("EXERCISE", help="the file of the exercise, or a folder with a file exercise.txt")
+    it.add_argument(
+        "PROGRAMS", help="the folder of the programs: NAME.occ or NAME.s for each student, or a folder NAME"
+    )
+    it = it.parse_args(words)
+    kept, exercise = class_in(it.DIR), exercise_in(it.EXERCISE)
+    users = [name for names in kept.farms.values() for name in names]
+    found, others = programs_in(it.PROGRAMS, users)
+    build("class", "lab")
+    course = os.path.abspath(it.DIR)
+    with ThreadPoolExecutor(os.cpu_count() or 1) as pool:
+        rows = [*pool.map(lambda user: row_of(exercise, user, person_of(course, user), found.get(user, [])), users)]
+    for path, text in ((it.csv, as_csv), (it.html, as_page)):
+        if path:
+            written(path, text(exercise, rows))
+    print(
+        "".join(f"note: {escaped(os.path.join(it.PROGRAMS, name))} is no student's program\n" for name in others),
+        end="",
+    )
+    print("\n".join(as_table(exercise, rows)))
+    return 0

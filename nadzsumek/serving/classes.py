@@ -1,0 +1,296 @@
+"""A class: its folders and sheets, its farms, and what its students have done."""
+import argparse
+import difflib
+import fcntl
+import os
+import shlex
+import sys
+from concurrent.futures import ThreadPoolExecutor
+
+from .changing import hold, starting
+from .checking import check
+from .coming import add, change_one, remove, rename
+from .escapes import escaped
+from .finishing import finish
+from .folder import CLASS, FOLDER_MODE, Refused, build, is_locked, made, mode_of, program, socket_path
+from .kept import Kept, Rooms, class_in, keep, save
+from .plans import LIMIT, Machine, farms_of, plan_of, students_of
+from .rooms import RECORD_ROOM, ROOM, Needed, add_rooms
+from .sheets import count, sheet, sheet_path, ways_of
+from .status import table, told_by
+from .supervising import Supervisor
+from .upkeep import INTERRUPTED, Stop, do_all
+from .verifying import verify
+from .versions import add_version
+from .wall import wall
+
+# How many farms are asked at once.
+MOST_ASKED = 32
+# What most orders want behind them.
+FOLDER_ALONE = "the folder of the class behind it, and nothing else"
+
+
+def say_rooms(folder, domains, rooms):
+    """Says what the rooms may take together, if there isn't so much."""
+    needed = Needed(domains, *rooms, folder)
+    warnings = [*needed.warnings()]
+    print("".join(f"{escaped(it)}\n" for it in ([f"note: {needed.told()}", *warnings] if warnings else [])), end="")
+
+
+def check_free(folder):
+    """Refuses a folder that has a class."""
+    if os.path.exists(os.path.join(folder, CLASS)):
+        raise Refused(
+            f"there is a class in {os.path.abspath(folder)} already: take another folder. Or begin again: class stop "
+            f"{shlex.quote(folder)}, and then remove the folder, with all that its students did"
+        )
+
+
+def make(words):
+    """Writes the folders, plans and sheets of a class."""
+    folder, machine = os.path.abspath(words.DIR), Machine(words.nodes, words.hosts, words.memory, words.limit)
+    machine.check()
+    (students, notes), ways = students_of(words.students), ways_of(words.mode)
+    check_free(words.DIR)
+    farms = {f"farm-{at}": names for at, names in enumerate(farms_of([*students], machine), 1)}
+    for farm in farms:
+        for name in farms[farm]:
+            socket_path(os.path.join(folder, farm), name)
+    made(os.path.join(folder, "sheets"), FOLDER_MODE)
+    for farm, names in farms.items():
+        place = os.path.join(folder, farm)
+        made(place, FOLDER_MODE)
+        save(os.path.join(place, "plan.toml"), plan_of(names, machine))
+        for name in names:
+            save(sheet_path(folder, name), sheet(students[name], name, machine, place, ways))
+    rights = ["--mode", f"{words.mode:03o}"] + (["--group", words.group] if words.group else [])
+    rooms = Rooms(words.room, words.record_room)
+    keep(folder, Kept(farms, rights, rooms, machine))
+    print("".join(f"note: {escaped(it)}\n" for it in notes), end="")
+    print(
+        f"{count(len(students), 'student')} in {count(len(farms), 'farm')}, each with {count(machine.ports(), 'port')}; "
+        f"their sheets are in {os.path.join(words.DIR, 'sheets')}"
+    )
+    say_rooms(folder, len(students), rooms)
+    return 0
+
+
+def start(folder):
+    """Starts each farm that isn't served yet, and waits until it answers."""
+    class_in(folder)
+    build("class", "live", "lab")
+    with hold(folder, fcntl.LOCK_SH):
+        kept = class_in(folder)
+        return do_all([starting(kept, farm, folder, names) for farm, names in kept.farms.items()])
+
+
+def start_with(words):
+    """Starts the farms with other rooms than they had, which are kept from then on."""
+    it = argparse.ArgumentParser(
+        prog="class start",
+        usage="class start [--room SIZE] [--record-room SIZE] DIR",
+        description="Starts the farms of a class with other rooms, also from then on.",
+    )
+    add_rooms(it, None, None)
+    it.add_argument("DIR", help="the folder of the class")
+    it = it.parse_args(words)
+    kept = class_in(it.DIR)
+    rooms = Rooms(it.room or kept.rooms.room, it.record_room or kept.rooms.record_room)
+    if rooms != kept.rooms:
+        for farm in kept.farms:
+            if is_locked(farm):
+                raise Refused(
+                    f"{os.path.basename(farm)} is up, with the rooms that it has: class stop {shlex.quote(it.DIR)} first"
+                )
+        with hold(it.DIR, fcntl.LOCK_EX):
+            keep(it.DIR, class_in(it.DIR)._replace(rooms=rooms))
+        say_rooms(it.DIR, sum(len(names) for names in kept.farms.values()), rooms)
+    return start(it.DIR)
+
+
+def serve(*words):
+    """Becomes the `serve` of one farm, with what is kept of its class, or has those of all its farms as children, as a unit of
+    systemd wants it."""
+    *more, farm = words if words else ("",)
+    if not farm or [it for it in more if it != "--sync"]:
+        raise Refused(
+            "serve wants the folder of a farm behind it or that of a class, or --sync and the folder. Try: class serve "
+            "course/farm-1"
+        )
+    farm = os.path.abspath(farm)
+    if os.path.isfile(os.path.join(farm, CLASS)):
+        class_in(farm)
+        return Supervisor(farm, more).run()
+    kept = class_in(os.path.dirname(farm))
+    if farm not in kept.farms:
+        raise Refused(
+            f"{farm} is no farm of its class: there are {', '.join(os.path.basename(it) for it in kept.farms)}"
+        )
+    call = [program("serve"), *more, *kept.rights, *kept.rooms.words(), os.path.join(farm, "plan.toml"), farm]
+    os.execv(call[0], call)
+
+
+def stop(folder):
+    """Stops each farm. Its records stay, and it goes on from them when it is started again."""
+    class_in(folder)
+    with hold(folder, fcntl.LOCK_SH):
+        return do_all([Stop(farm, folder) for farm in class_in(folder).farms])
+
+
+def status(folder):
+    """Prints a row for each student, and below them how much memory each farm has that answers."""
+    farms = class_in(folder).farms
+    # a farm that doesn't answer delays no other's rows
+    with ThreadPoolExecutor(MOST_ASKED) as pool:
+        told = [*pool.map(told_by, farms.keys(), farms.values())]
+    print("\n".join(table([row for rows, _ in told for row in rows])))
+    memory = [escaped(it) for _, it in told if it is not None]
+    print("".join(f"{it}\n" for it in (["", *memory] if memory else [])), end="")
+    return 0
+
+
+def check_record(folder, name, file):
+    """Says whether a file is what the farm has recorded of a student."""
+    how, lines = verify(folder, class_in(folder), name, file)
+    print("\n".join(escaped(it) for it in lines))
+    return how
+
+
+# Each with what it wants behind it, and an example of that.
+ORDERS = {
+    "start": (start, FOLDER_ALONE, "course"),
+    "stop": (stop, FOLDER_ALONE, "course"),
+    "status": (status, FOLDER_ALONE, "course"),
+    "remove": (remove, "the folder of the class and a student's name", "course ada-lovelace"),
+    "rename": (rename, "the folder of the class, a student's name and the new one", "course ada-lovelace 'Ada Byron'"),
+    "verify": (
+        check_record,
+        "the folder of the class, a student's name and a file",
+        "course ada-lovelace ada-lovelace.replay",
+    ),
+}
+# Those that read their words by themselves.
+MORE_ORDERS = {
+    "serve": lambda words: serve(*words),
+    "add": add,
+    "change": change_one,
+    "finish": finish,
+    "check": check,
+    "wall": wall,
+}
+
+
+ABOUT_ORDERS = """\
+a class that is there:
+  class start DIR             starts the farms that aren't up, and waits until they answer. With --room or --record-room
+                              they have other rooms from then on; stop them first
+  class serve DIR/FARM        is the serve of one farm, until it is stopped, as a unit of systemd wants it; also with --sync
+  class serve DIR             is those of all farms, until it is stopped, also of farms that are added later
+  class stop DIR              stops the farms; they go on where they were when they are started again
+  class status DIR            shows what each student has done
+  class add DIR NAME ..       adds students: each gets a place in a farm that has one, or in one more farm. Others keep what
+                              they have, but a farm with a new place is away for a second. With --students NAMES.txt too
+  class remove DIR NAME ..    removes students. Their records, plans and sheets stay until the class is finished
+  class change DIR NAME       gives a student a machine of another shape, which begins anew, with --nodes N [--hosts H]
+  class rename DIR OLD NEW    gives a student another name; the records go with him
+  class finish DIR [ARCHIVE]  stops the class, and puts all records, plans and sheets into an archive (DIR.tar.xz unless
+                              given); with --remove the folder of the class is removed then
+  class verify DIR NAME FILE  says whether a file is what the farm has recorded of a student
+  class check DIR EXERCISE PROGRAMS
+                              tries each student's program in an exercise, in farms of its own, and prints a table; also for
+                              a spreadsheet with --csv FILE, and as a page with --html FILE
+  class wall DIR FILE         writes a page with what each student's nodes wait for, again every few seconds (--seconds N), or
+                              once with --once
+"""
+
+
+def words_of(given):
+    it = argparse.ArgumentParser(
+        prog="class",
+        description="A farm for each student of a class.",
+        epilog=ABOUT_ORDERS,
+        formatter_class=argparse.RawDescriptionHelpFormatter,
+        usage="""\
+class --students NAMES.txt --nodes N [--hosts H] [--memory M] [--limit L] [--room SIZE] [--record-room SIZE]
+             [--mode M] [--group G] DIR
+       class start [--room SIZE] [--record-room SIZE] DIR
+       class serve [--sync] DIR|DIR/FARM
+       class stop|status DIR
+       class add [--students NAMES.txt] DIR [NAME ..]
+       class remove DIR NAME ..
+       class change DIR NAME --nodes N [--hosts H]
+       class rename DIR OLD NEW
+       class finish [--remove] DIR [ARCHIVE]
+       class verify DIR NAME FILE
+       class check [--csv FILE] [--html FILE] DIR EXERCISE PROGRAMS
+       class wall [--seconds N] [--once] DIR FILE""",
+    )
+    add_version(it)
+    it.add_argument("--students", required=True, metavar="NAMES.txt", help="a file with one name a line")
+    it.add_argument("--nodes", type=int, required=True, metavar="N", help="how many nodes each student has, 1 to 8")
+    it.add_argument("--hosts", type=int, default=1, metavar="H", help="how many hosts, 1 to 4, default 1")
+    it.add_argument("--memory", type=int, default=4096, metavar="M", help="how many bytes each node has, default 4096")
+    it.add_argument(
+        "--limit", type=int, default=LIMIT[-1], metavar="L", help=f"how many events are recorded, default {LIMIT[-1]}"
+    )
+    add_rooms(it, ROOM, RECORD_ROOM)
+    it.add_argument(
+        "--mode", type=mode_of, default=0o600, metavar="M", help="the mode of the students' sockets, default 600"
+    )
+    it.add_argument(
+        "--group", metavar="G", help="the group of the students' sockets; %%u in it stands for the user's name"
+    )
+    it.add_argument("DIR", help="the folder of the class")
+    return it.parse_args(given)
+
+
+def order(given):
+    """Does what is asked of a class that is there."""
+    first, *words = given
+    if first in MORE_ORDERS:
+        return MORE_ORDERS[first](words)
+    if first not in ORDERS:
+        near = difflib.get_close_matches(first.lower(), [*ORDERS, *MORE_ORDERS], 1, 0.6)
+        there = shlex.quote(words[0]) if len(words) == 1 else "course"
+        how = example_of(near[0], there) if near and near[0] in ORDERS else f"class {near[0]} --help" if near else None
+        more = f"Is it {near[0]}? Try: {how}" if near else "A new class wants --students, see class --help"
+        *names, last = sorted([*ORDERS, *MORE_ORDERS])
+        raise Refused(f"there is no subcommand {first}: there are {', '.join(names)} and {last}. {more}")
+    if first == "start" and any(it.startswith(("--room", "--record-room")) for it in words):
+        return start_with(words)
+    does, wants, example = ORDERS[first]
+    least = len(shlex.split(example))
+    if len(words) < least or (len(words) > least and first != "remove"):
+        raise Refused(f"{first} wants {wants}. Try: {example_of(first)}")
+    return does(*words)
+
+
+def example_of(name, folder="course"):
+    """An order as it may be typed, of this class."""
+    return f"class {name} {ORDERS[name][2].replace('course', folder, 1)}"
+
+
+def done(given):
+    """Does what these words ask for; the status."""
+    if given and (given[0] in (*ORDERS, *MORE_ORDERS) or not any(it.startswith("-") for it in given)):
+        return order(given)
+    return make(words_of(given))
+
+
+def main(given):
+    sys.stdout.reconfigure(errors="backslashreplace")
+    try:
+        try:
+            return done(given)
+        finally:
+            # a reader who is gone is noticed here, and not when Python ends
+            sys.stdout.flush()
+    except BrokenPipeError:
+        # nobody reads any more
+        os.dup2(os.open(os.devnull, os.O_WRONLY), sys.stdout.fileno())
+        return 1
+    except (Refused, OSError) as error:
+        print("".join(f"class: {escaped(it)}\n" for it in str(error).split("\n")), end="", file=sys.stderr)
+        return 1
+    except KeyboardInterrupt:
+        return INTERRUPTED

@@ -1,0 +1,50 @@
+"""What Tab completes at a terminal: verbs, verbs behind `help`, files and examples behind `load`, and the operator's
+users."""
+import os
+import readline
+
+from .folder import OPERATOR, users_of
+from .orders import examples, table_of
+
+
+def files(text):
+    """The files whose path begins so, folders with a slash behind them; and the examples, if no folder is named."""
+    folder, start = os.path.split(text)
+    place = os.path.expanduser(folder) or "."
+    there = [
+        it + "/" if os.path.isdir(os.path.join(place, it)) else it for it in os.listdir(place) if it.startswith(start)
+    ]
+    if not folder:
+        there += [it for it in examples() if it.startswith(start)]
+    return sorted({os.path.join(folder, it) for it in there if start or not it.startswith(".")})
+
+
+def candidates(folder, name, line):
+    """How the last word of a line can go on."""
+    table, (*words, text) = table_of(name), line.split(" ") if line.strip() else [""]
+    words = [it for it in words if it]
+    if not words:
+        mark = "!" if name == OPERATOR and text.startswith("!") else ""
+        return [f"{mark}{it} " for it in table if it.startswith(text.removeprefix(mark))]
+    verb = words[0].removeprefix("!") if name == OPERATOR else words[0]
+    if verb == "help" and len(words) == 1:
+        return [it for it in table if it.startswith(text)]
+    if verb == "load" and len(words) == 2:
+        return files(text)
+    if verb == "restart" and len(words) == 1 and name == OPERATOR:
+        return [it for it in users_of(folder) if it.startswith(text)]
+    return []
+
+
+def complete_with(folder, name):
+    """Lets Tab complete the lines of this user."""
+
+    def complete(_, number):
+        try:
+            return [*candidates(folder, name, readline.get_line_buffer()[: readline.get_endidx()]), None][number]
+        except OSError:
+            return None
+
+    readline.set_completer_delims(" ")
+    readline.set_completer(complete)
+    readline.parse_and_bind("tab: complete")

@@ -1,0 +1,142 @@
+"""The end of a class: all that its students did in one archive."""
+import argparse
+import contextlib
+import os
+import shutil
+import signal
+import tarfile
+
+from .changing import changing
+from .coming import REMOVED
+from .escapes import escaped
+from .folder import CLASS, PLAN, Refused, is_locked
+from .records import PIECE, records_of
+from .sheets import count
+from .supervising import tell
+from .upkeep import Stop, all_done
+
+ENDING, OWN = ".tar.xz", 0o600
+
+
+def entries_of(folder):
+    return sorted(os.listdir(folder)) if os.path.isdir(folder) else []
+
+
+def users_of(change):
+    """Each student with the folder of the farm where the records are: those who are there, and those who were removed."""
+    users = [(name, farm) for farm, names in change.kept.farms.items() for name in names]
+    return users + [*change.kept.removed.items()]
+
+
+def paths_of(change):
+    """What the archive has, folders before what is in them."""
+    users, course = users_of(change), change.course
+    yield course
+    yield os.path.join(course, CLASS)
+    for folder in ("sheets", REMOVED):
+        if entries_of(os.path.join(course, folder)):
+            yield os.path.join(course, folder)
+            yield from (os.path.join(course, folder, it) for it in entries_of(os.path.join(course, folder)))
+    for farm in dict.fromkeys(farm for _, farm in users):
+        yield farm
+        yield from (it for name in ("plan.toml", PLAN) if os.path.exists(it := os.path.join(farm, name)))
+        records = os.path.join(farm, "records")
+        if os.path.isdir(records):
+            yield records
+            yield from (path for name, place in users if place == farm for path in records_of(records, name))
+
+
+def plain(it):
+    """An entry of the archive without the account of the farm: whoever opens it has it."""
+    it.uid = it.gid = 0
+    it.uname = it.gname = ""
+    return it
+
+
+def is_same(archive, path, name):
+    """Whether a file is in an archive as it is."""
+    with open(path, "rb") as here, archive.extractfile(name) as there:
+        while True:
+            piece = here.read(PIECE)
+            if piece != there.read(PIECE):
+                return False
+            if not piece:
+                return True
+
+
+def write(change, file):
+    """Writes the archive, and reads it again."""
+    top = os.path.dirname(change.course)
+    names = {path: os.path.relpath(path, top) for path in paths_of(change)}
+    with tarfile.open(fileobj=file, mode="w:xz") as archive:
+        for path, name in names.items():
+            archive.add(path, name, recursive=False, filter=plain)
+    file.seek(0)
+    with tarfile.open(fileobj=file, mode="r:xz") as archive:
+        for path, name in names.items():
+            if not os.path.isdir(path) and not is_same(archive, path, name):
+                raise Refused(f"{path} isn't in the archive as it is, so nothing is removed")
+    os.fsync(file.fileno())
+
+
+def check_place(change, path):
+    """Refuses a place where no archive can be, before a farm is stopped."""
+    folder = os.path.dirname(path)
+    if not path.endswith(ENDING):
+        raise Refused(f"the archive {path} is to end with {ENDING}")
+    if os.path.lexists(path):
+        raise Refused(f"{path} is there already: choose another name, or move it away")
+    if not os.path.isdir(folder) or not os.access(folder, os.W_OK):
+        raise Refused(f"there can be no file in {folder}: choose another folder for the archive")
+    if os.path.commonpath([os.path.realpath(path), os.path.realpath(change.course)]) == os.path.realpath(change.course):
+        raise Refused(f"the archive {path} would be in the folder of the class: choose another folder")
+
+
+def stop_all(change):
+    """Stops all farms, and says which were up. If one can't be stopped, those are started again."""
+    up = [farm for farm in change.kept.farms if is_locked(farm)]
+    failed = all_done([Stop(farm, change.course) for farm in up])
+    if failed:
+        change.go_back([farm for farm in up if not is_locked(farm)])
+        raise Refused("\n".join([*(f"{it.name}: {it.outcome[1]}" for it in failed), "all is as it was"]))
+    return up
+
+
+def finish(words):
+    """Stops a class, and puts all that its students did into one archive."""
+    it = argparse.ArgumentParser(
+        prog="class finish",
+        usage="class finish [--remove] DIR [ARCHIVE]",
+        description="Stops a class, and puts all that its students did into one archive.",
+    )
+    it.add_argument("--remove", action="store_true", help="removes the folder of the class when the archive is whole")
+    it.add_argument("DIR", help="the folder of the class")
+    it.add_argument("ARCHIVE", nargs="?", help=f"the archive, DIR{ENDING} unless given")
+    it = it.parse_args(words)
+    with changing(it.DIR) as change:
+        path = os.path.abspath(it.ARCHIVE or f"{change.course}{ENDING}")
+        check_place(change, path)
+        up = stop_all(change)
+        try:
+            with open(os.open(f"{path}.new", os.O_RDWR | os.O_CREAT | os.O_TRUNC, OWN), "w+b") as file:
+                write(change, file)
+            os.rename(f"{path}.new", path)
+        except (OSError, Refused) as error:
+            change.go_back(up)
+            raise Refused(f"{error}\nall is as it was") from None
+        finally:
+            with contextlib.suppress(FileNotFoundError):
+                os.unlink(f"{path}.new")
+        users = users_of(change)
+        records = sum(len(records_of(os.path.join(farm, "records"), name)) for name, farm in users)
+        if it.remove:
+            tell(change.course, signal.SIGTERM)
+            shutil.rmtree(change.course)
+    gone = f", {len(change.kept.removed)} of them removed" if change.kept.removed else ""
+    print(
+        escaped(
+            f"{count(len(users), 'student')}{gone}, with {count(records, 'record')}: {it.ARCHIVE or path} has "
+            f"{count(os.path.getsize(path), 'byte')}"
+        )
+    )
+    return 0

@@ -1,0 +1,177 @@
+"""What a terminal finds before it sends a program: whether the node that its host is joined with waits for a boot. It asks by lines
+that are no events, so that nothing is recorded of it; only a node that computes is looked at, which changes nothing either."""
+import re
+from typing import NamedTuple
+
+from .connections import opened
+from .folder import Refused
+from .ports import drivers_in
+from .verbs import Wrong, goes_on
+
+# How long each of its questions may take.
+SECONDS = 10
+TAG = "#1 "
+# What `why` says of a node that waits for a boot, and of others: what is said of them here.
+WAITS = re.compile(r"waits for a control byte\.")
+STATES = (
+    (r"has ended\b", "has run a program that has ended"),
+    (r"rests\b", "has a program that waits"),
+    (r"runs\b", "has a program that runs"),
+    (r"halted by fault (\d+)", "has halted by a fault"),
+    (
+        r"takes a poke\b|takes a peek\b|takes code\b|answers a peek\b|waits for a control byte, ",
+        "has a part of a message",
+    ),
+)
+# The same of an answer to `look`.
+LOOKED = {
+    "idle": "has a program that waits or has ended",
+    "running": "has a program that runs",
+    "halted": "has halted by a fault",
+}
+# What it says of a byte that came by a link and that nobody takes any more, or that a reset has dropped.
+STUCK = (
+    "Link {link} holds a byte that nobody will take",
+    "link {link} of node {node} has neither the byte nor an acknowledge of it",
+)
+UNCHECKED = "connect --unchecked sends it even so"
+
+
+class Hindered(Wrong):
+    """A load that would boot nothing: why, and the lines that help, none if this is left to the user. `word` is how a script
+    knows it."""
+
+    word = "notbooting"
+
+    def __init__(self, why, lines=(), advice=None):
+        self.lines, self.why = tuple(lines), why
+        self.advice = advice or f"Type {' and then '.join(self.lines)} first"
+        super().__init__(f"{why}. {self.advice}, or {UNCHECKED}" if lines or advice else why)
+
+
+class Quiet:
+    """A connection beside that of a terminal. Its answers go to nobody else."""
+
+    def __init__(self, folder, name):
+        self.stream = opened(folder, name)
+        self.stream.settimeout(SECONDS)
+        self.lines = self.stream.makefile("rb")
+
+    def __enter__(self):
+        return self
+
+    def __exit__(self, *_):
+        self.lines.close()
+        self.stream.close()
+
+    def ask(self, line):
+        """The lines of an answer. What isn't answered is an OSError."""
+        self.stream.sendall(f"{TAG}{line}\n".encode())
+        answers = []
+        while raw := self.lines.readline():
+            text = raw.decode(errors="surrogateescape").removesuffix("\n")
+            if text.startswith("error: "):
+                break
+            if text.startswith(TAG):
+                answers.append(text.removeprefix(TAG))
+                if not goes_on(answers[-1]):
+                    return answers
+        raise OSError
+
+
+def check_load(folder, name, wiring, host, file):
+    """Refuses a load that would boot nothing, as far as that can be known: the plan must be readable, and the farm must answer."""
+    if wiring is None:
+        return
+    try:
+        with Quiet(folder, name) as quiet:
+            drivers = drivers_in(quiet.ask("ports")[0])
+            check_host(wiring, drivers, host, file)
+            if drivers is not None:
+                check_node(wiring, host, *link_of(wiring, drivers, host), quiet.ask)
+    except (OSError, Refused):
+        # what is sent is answered, whatever that is
+        check_host(wiring, None, host, file)
+
+
+def fed_by(wiring, drivers, host):
+    """The links that get what a host sends: node, link and port."""
+    return [
+        (node, link, port)
+        for node in range(len(wiring.nodes))
+        for link, port in wiring.links_of(node)
+        if (drivers or {}).get(port) == wiring.hosts[host]
+    ]
+
+
+def check_host(wiring, drivers, host, file):
+    """Refuses a number that is none of the user's hosts. It may be a node's: then it is said how a host is joined with it."""
+    if host in wiring.hosts:
+        return
+    hosts = [*wiring.hosts]
+    own = f"host {hosts[0]}" if len(hosts) == 1 else f"the hosts {' and '.join(f'{it}' for it in hosts)}"
+    if host >= len(wiring.nodes):
+        raise Wrong(f"there is no host {host}: you have {own}. Try: load {hosts[0]} {file}")
+    for it in hosts:
+        if any(node == host for node, _, _ in fed_by(wiring, drivers, it)):
+            raise Wrong(f"{host} is a node, and load wants the host that is joined with it. Try: load {it} {file}")
+    free = next((it for it in hosts if not fed_by(wiring, drivers, it)), hosts[0])
+    lines = [f"config 05{port:02x}" for _, _, port in fed_by(wiring, drivers, free)]
+    lines += [wiring.join(host, free), f"load {free} {file}"]
+    raise Wrong(
+        f"{host} is a node, and you have {own}. Join host {free} with node {host} first: {', then '.join(lines)}"
+    )
+
+
+def link_of(wiring, drivers, host):
+    """The node and the link that a host is joined with, both ways and with no other."""
+    fed, port = fed_by(wiring, drivers, host), wiring.hosts[host]
+    if not fed:
+        joins = [wiring.join(node, host) for node in range(len(wiring.nodes))]
+        if len(joins) == 1:
+            raise Hindered(f"host {host} is joined with no node, so all bytes would be lost", joins)
+        each = ", ".join(f"{line} joins it with node {node}" for node, line in enumerate(joins))
+        raise Hindered(
+            f"host {host} is joined with no node, so all bytes would be lost", advice=f"Join it first: {each}"
+        )
+    nodes = sorted({node for node, _, _ in fed})
+    if len(fed) > 1:
+        away = ", ".join(f"config 05{at:02x} takes it away from node {node}" for node, _, at in fed)
+        where = (
+            f"nodes {' and '.join(f'{it}' for it in nodes)}" if len(nodes) > 1 else f"several links of node {nodes[0]}"
+        )
+        raise Hindered(f"what host {host} sends goes to {where} together", advice=f"Let one of them have it: {away}")
+    node, link, link_port = fed[0]
+    if drivers.get(port) != link_port:
+        raise Hindered(
+            f"what host {host} sends goes to node {node}, but nothing comes back, so its acknowledges would be lost",
+            [f"join {link_port} {port}"],
+        )
+    return node, link
+
+
+def check_node(wiring, host, node, link, ask):
+    """Refuses a node that doesn't wait for a boot, and one that will never get a byte of its host."""
+    # of a machine that computes `why` may take seconds, and is of a moment that is over
+    answers = ask(f"why {node}") if ask("rest")[0] == "rest quiet" else []
+    if any(it.format(node=node, link=link) in line for line in answers for it in STUCK):
+        raise Hindered(
+            f"a byte of host {host} is stuck at node {node}, and a reset doesn't help",
+            ["restart", wiring.join(node, host)],
+            "Type restart, and join again",
+        )
+    state = state_of(node, answers, ask)
+    if state:
+        raise Hindered(f"node {node} {state}, and takes no boot before it is reset", [f"reset {node}"])
+
+
+def state_of(node, answers, ask):
+    """What a node does that doesn't wait for a boot; none if it does, or if it isn't known."""
+    if not answers or re.fullmatch(r"why after \d+ of \d+ .*", answers[0]):
+        # what it did after its first Steps isn't what it does now
+        looked = re.match(rf"look {node} (\w+)", ask(f"look {node}")[0])
+        return LOOKED.get(looked[1]) if looked else None
+    told = next((found[1] for it in answers if (found := re.fullmatch(rf"why node {node} (.*)", it))), "")
+    if WAITS.fullmatch(told):
+        return None
+    return next((state for pattern, state in STATES if re.match(pattern, told)), None)

@@ -1,0 +1,101 @@
+"""What a line at a terminal sends: a line for `live`, or several for load, which reads a file. Words that are wrong are refused with
+what to try, and `live` decides by itself."""
+import os
+import subprocess
+
+from .folder import EXAMPLES, OPERATOR, Refused, build, program
+from .hints import meant
+from .texts import in_quotes
+from .verbs import ALIASES, ALL, FILE, OPERATORS, SENTENCE, TEXT, USERS, Wrong, check, find, with_ports
+
+# How the name of a file ends that has a program in occam.
+OCCAM = ".occ"
+
+
+def table_of(name, ports=None):
+    """The verbs of a user, with examples for his ports if they are known, or of the operator."""
+    users = with_ports(ports) if ports else USERS
+    return {**(OPERATORS if name == OPERATOR else users), **ALL}
+
+
+def split(name, line, ports=None):
+    """The verb of a line with its words. The last word of some verbs goes to the end of the line."""
+    words = line.split()
+    table, others = table_of(name, ports), USERS if name == OPERATOR else OPERATORS
+    first = words[0].removeprefix("!") if name == OPERATOR else words[0]
+    first = ALIASES.get(first, first)
+    if first in others and first not in table:
+        raise Wrong(
+            f"{first} is a verb of {'users: connect as one of them' if name == OPERATOR else 'the operator'}. "
+            f"{meant(first, table) or 'Try: help'}"
+        )
+    verb = find(table, first)
+    most = len(verb.kinds)
+    if verb.kinds and verb.kinds[-1] in (TEXT, FILE, SENTENCE):
+        words = line.split(None, most)
+    return first, verb, [it.strip() for it in words[1:]]
+
+
+def lines_of(name, line, ports=None):
+    """The lines that a line asks for, none for `help` and `quit`, which the terminal does itself."""
+    first, verb, words = split(name, line, ports)
+    if first in ALL:
+        return []
+    check(first, verb, words)
+    if first == "load":
+        return loading(name, words[0], words[1])
+    if first == "send":
+        words[1] = in_quotes(words[1])
+    return [" ".join(([f"!{first}"] if name == OPERATOR else [first]) + words)]
+
+
+def examples():
+    """The names of the examples that can be loaded, each with its path."""
+    return {
+        name: os.path.join(folder, name)
+        for ending, folder in EXAMPLES.items()
+        if os.path.isdir(folder)
+        for name in os.listdir(folder)
+        if name.endswith(ending)
+    }
+
+
+def found(file):
+    """The path of a program's file: as it is said, with quotes round it or without, or one of the examples, whose ending may be
+    left out."""
+    name = file[1:-1] if len(file) > 2 and file[0] in "'\"" and file[-1] == file[0] else file
+    there = examples()
+    for path in (os.path.expanduser(name), *(there.get(name + ending, "") for ending in ("", *EXAMPLES))):
+        if os.path.isfile(path):
+            return path
+    if os.path.isdir(os.path.expanduser(name)):
+        raise Wrong(f"{name} is a folder, and load wants a file. Try: load 0 hello.s")
+    raise Wrong(
+        f"there is no file {name} in {os.getcwd()}" + (f". Examples are {', '.join(sorted(there))}" if there else "")
+    )
+
+
+def translated(path, *words):
+    """The lines that `lab` prints of a program, which is in occam if its file's name says so: its code, or what the words ask
+    for. Or what `lab` says is wrong."""
+    call = ["occam", os.path.abspath(path), *(words or ["--code"])] if path.endswith(OCCAM) else ["assemble", *words]
+    with open(path, "rb") as file:
+        done = subprocess.run([program("lab"), *call], stdin=file, capture_output=True, check=False)
+    told = done.stderr.decode(errors="replace").strip()
+    return done.stdout.decode().splitlines() if done.returncode == 0 else None, told
+
+
+def loading(name, host, file):
+    """The lines that boot a program: its code, or pokes and a jump if it is too long for a boot."""
+    path = found(file)
+    try:
+        build("connect", "lab")
+        code, told = translated(path)
+        if code:
+            return [f"boot {host} {code[0]}"]
+        lines, told = translated(path, "--pokes", host, name)
+    except (OSError, Refused) as error:
+        raise Wrong(f"{file} can't be {'compiled' if path.endswith(OCCAM) else 'assembled'}: {error}") from None
+    if not lines:
+        raise Wrong(f"{file}: {told or 'lab was broken off'}")
+    return [line.removeprefix(f"{name} ") for line in lines]

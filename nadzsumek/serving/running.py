@@ -1,0 +1,178 @@
+"""One run of `live` after another: how it is started, spoken to, and started again if it ends by a fault."""
+import asyncio
+import collections
+import re
+import signal
+import time
+
+from .folder import Refused
+from .lines import Lines
+
+# If `live` ends more often than so many times in so many seconds, it isn't started again.
+MOST_STARTS = 5
+WITHIN = 60
+# How long it is waited for a `live` of a `serve` that was killed.
+LOCK_SECONDS = 60
+# The statuses of docs/LIVE.md that the program's words, the plan and the records have, and what it says of records that
+# another has.
+WORDS, PLAN, FILES = 2, 3, 6
+TAKEN = "another farm records there"
+# So many lines of its standard error are kept, and so many bytes of each line are read.
+KEPT, MOST_TOLD = 20, 4096
+# How long is waited before each next start if the program can't be started at all: until a descriptor, memory or the
+# program itself is there again.
+PAUSES = (1, 2, 4, 8, 16)
+# What `live` says of a record that it does again: whose record it is, and how far it is.
+DONE_AGAIN = re.compile(r"(?:.*/)?([^/]+)\.replay: (\d+ of \d+ MiB) are done again")
+# What it says of a line whose user it doesn't know, since it had no memory to read the name.
+NOBODYS = re.compile(r"error (\d+) user")
+
+
+def how(status):
+    """How a process ended."""
+    if status < 0:
+        return f"by signal {-status} ({signal.Signals(-status).name})"
+    return f"with status {status}"
+
+
+class Live:
+    """One run of `live`. Its lines are counted as it counts them. `tell` is handed each line of its standard error."""
+
+    def __init__(self, process, tell):
+        self.process, self.tell, self.count, self.errors = process, tell, 0, collections.deque(maxlen=KEPT)
+        self.lines, self.kept = Lines(process.stdout), []
+        self.listening = asyncio.ensure_future(self.listen())
+
+    @classmethod
+    async def start(cls, words, tell):
+        """Starts it in a group of its own, so that a signal of the terminal reaches `serve` alone. As Python does, it passes
+        over the signals by which a write to a closed pipe or past a limit of files would end it: the write fails then, and
+        that is told."""
+        pipe = asyncio.subprocess.PIPE
+        return cls(
+            await asyncio.create_subprocess_exec(
+                *words, stdin=pipe, stdout=pipe, stderr=pipe, start_new_session=True, restore_signals=False
+            ),
+            tell,
+        )
+
+    async def listen(self):
+        """Hands on what it says on standard error, and keeps the end of it."""
+        held = b""
+        while piece := await self.process.stderr.read(MOST_TOLD):
+            *whole, held = (held + piece).split(b"\n")
+            if len(held) > MOST_TOLD:
+                whole, held = [*whole, held], b""
+            for line in whole:
+                self.hear(line)
+        if held:
+            self.hear(held)
+
+    def hear(self, line):
+        text = line.decode(errors="backslashreplace")
+        self.errors.append(text)
+        self.tell(text)
+
+    def say(self, line):
+        """Sends a line, and returns its number in this run."""
+        self.count += 1
+        self.process.stdin.write(line)
+        return self.count
+
+    async def users(self):
+        """The names of the plan's users, in its order; none if the program has ended. What it says besides is kept, as the notes
+        of a domain that rests already."""
+        self.say(b"!users\n")
+        self.say(b"!words\n")
+        names, is_told = [], False
+        while not is_told and (lines := await self.lines.some()):
+            for line in lines:
+                if line.startswith(b"!users "):
+                    names.append(line.split(b" ")[1].decode())
+                elif line.startswith(b"!words "):
+                    is_told = True
+                else:
+                    self.kept.append(line)
+        return names if is_told else []
+
+    async def some(self):
+        """The lines that it says next, at least one; none at the end. Those that were kept come first."""
+        if self.kept:
+            lines, self.kept = self.kept, []
+            return lines
+        return await self.lines.some()
+
+    async def end(self):
+        """Its status, when it has ended."""
+        status = await self.process.wait()
+        await asyncio.wait({self.listening}, timeout=1)
+        return status
+
+    def kill(self):
+        try:
+            self.process.kill()
+        except ProcessLookupError:
+            pass
+
+
+class Starts:
+    """When `live` was started again, and whether it may be once more."""
+
+    def __init__(self):
+        self.times = collections.deque()
+
+    def another(self, has_started=True):
+        """How many seconds to wait before the next start; none if there were too many. It is longer if the program couldn't
+        be started at all."""
+        now = time.monotonic()
+        while self.times and self.times[0] < now - WITHIN:
+            self.times.popleft()
+        count = len(self.times)
+        if count >= MOST_STARTS:
+            return None
+        self.times.append(now)
+        return 0.05 * (2**count - 1) if has_started else PAUSES[count]
+
+
+async def begin(words, records, begun, tell):
+    """A run of `live` that answers, and its users. `begun` is told of each process, and `tell` of each line of its standard
+    error. While another `live` has the records, as that of a `serve` that was killed has for a moment, it is waited."""
+    last, has_told = time.monotonic() + LOCK_SECONDS, False
+    while True:
+        live = await Live.start(words, lambda text: None if TAKEN in text else tell(text))
+        begun(live)
+        users = await live.users()
+        if users:
+            return live, users
+        status = await live.end()
+        if status != FILES or not any(TAKEN in text for text in live.errors):
+            raise Ended(status, live.errors)
+        if time.monotonic() > last:
+            raise Refused(
+                f"another live has had {records} for {LOCK_SECONDS} seconds: end it (fuser {records}/lock tells its "
+                f"number), and start serve again"
+            )
+        if not has_told:
+            has_told = True
+            tell(
+                f"serve: another live still has {records}. It is waited until that ends, {LOCK_SECONDS} seconds at most"
+            )
+        await asyncio.sleep(0.2)
+
+
+class Ended(Exception):
+    """`live` ended before it answered."""
+
+    def __init__(self, status, errors):
+        super().__init__(status)
+        self.status, self.errors = status, "\n".join(errors)
+
+    def advice(self, plan, faults=""):
+        """What to do about it. `faults` says where and why the plan is refused, if that is known."""
+        if self.status == PLAN:
+            return f"the plan is refused: {faults or f'./lab plan < {plan} says where and why'}"
+        if self.status == WORDS:
+            return "live refuses its words: see above, and ./live --help"
+        return (
+            f"live ended {how(self.status)} before it answered ({self.errors or 'it said nothing'}): see docs/LIVE.md"
+        )

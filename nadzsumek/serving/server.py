@@ -1,0 +1,477 @@
+"""The sockets of a farm that stays up, round one `live`."""
+import argparse
+import asyncio
+import contextlib
+import logging
+import os
+import re
+import resource
+import signal
+import socket
+import struct
+import subprocess
+import sys
+
+from . import running
+from .accepting import accept
+from .escapes import escaped
+from .folder import (
+    OPERATOR,
+    Folder,
+    Refused,
+    account_name,
+    build,
+    group_number,
+    is_built,
+    is_proved,
+    mode_of,
+    program,
+    socket_path,
+)
+from .ports import found_in, ports_told, users_in, wiring_in
+from .reports import Reports, open_streams
+from .rooms import RECORD_ROOM, ROOM, Needed, add_rooms
+from .speakers import UNANSWERED, Client, Operator, Speaker, shown, without_tag
+from .versions import add_version
+
+# How long a farm may take to answer what waits when it is stopped.
+STOP_SECONDS = 60
+# How long `live` may answer nothing unless another time is given, and how often it is asked meanwhile.
+PATIENCE, WATCHES = 30, 3
+# How often it is looked whether the folder is still there.
+LOOK_SECONDS = 2
+# How long `lab plan` may take.
+LAB_SECONDS = 10
+# The status of the lab if a plan is refused.
+REFUSED_PLAN = 3
+# So many connections wait before a socket.
+MOST_WAITING = 128
+# Clients of 64 users need so many open files at most.
+MOST_FILES = 4096
+# Who is at the other end of a socket, as the system says it: the numbers of a process, an account and a group.
+PEER = struct.Struct("@3i")
+
+
+class Server:
+    """A farm, its speakers and their sockets."""
+
+    def __init__(self, words, reports):
+        self.words, self.reports, self.folder = words, reports, Folder(words.DIR, words.sync)
+        self.plan = self.folder.plan_to_run(words.PLAN)
+        self.live, self.is_up, self.is_stopping, self.is_proved = None, False, False, True
+        # set while lines are handed on, or refused since the farm is stopped
+        self.goes = asyncio.Event()
+        self.starts, self.speakers, self.accepting, self.wirings = running.Starts(), {}, [], {}
+
+    def prepare(self):
+        """Takes the sockets away that a killed `serve` has left, and sees that each user has his group. A plan that can't be
+        read is left to `live`."""
+        names = [name for users in users_in(self.plan) for name in users]
+        for name in [*names, OPERATOR]:
+            with contextlib.suppress(Refused):
+                self.folder.remove_dead(socket_path(self.folder.path, name))
+        self.groups_of(names)
+
+    def groups_of(self, users):
+        """The number of the group of each user's socket; none if no group was given."""
+        it = self.words.group
+        return [None if it is None else group_number(it, name) for name in users]
+
+    def call(self):
+        """The words of `live`."""
+        it = self.words
+        more = [
+            word
+            for name in ("workers", "quantum")
+            if (value := getattr(it, name)) is not None
+            for word in (f"--{name}", str(value))
+        ]
+        # a room that isn't given is left to `live`
+        more += [
+            word
+            for name, value in (("room", it.room), ("record-room", it.record_room))
+            if value is not None
+            for word in (f"--{name}", value)
+        ]
+        more += ["--sync"] if it.sync else []
+        return [program("live"), *more, "--record", self.folder.records, "--resume", self.plan]
+
+    def open(self, users):
+        """A socket for each user and for the operator. No socket is there before it is known that each has its group."""
+        if OPERATOR in users:
+            raise Refused(
+                f"a user is called {OPERATOR}, as the operator's socket is: give him another name in the plan"
+            )
+        groups = self.groups_of(users)
+        self.speakers = {name: Speaker(name) for name in users}
+        self.speakers[OPERATOR] = Operator(OPERATOR, len(users))
+        for speaker, group in zip(self.speakers.values(), groups):
+            self.open_socket(speaker, self.words.mode, group)
+        self.open_socket(self.speakers[OPERATOR], 0o600, None)
+
+    def open_socket(self, speaker, mode, group):
+        async def serve(reader, writer):
+            client = Client(speaker, reader, writer)
+            who = self.peer(writer) if speaker.name == OPERATOR else None
+            if who:
+                self.reports.say(f"serve: {who} has opened the operator's socket")
+            if not self.is_proved:
+                client.tell(b"note: the program of this farm isn't proved yet\n")
+            if not self.is_up:
+                client.tell(b"note: the farm isn't up yet. Lines are answered when it is\n")
+            await client.serve(self.send)
+            if who:
+                self.reports.say(f"serve: {who} has left the operator's socket")
+
+        def refused(error):
+            self.reports.say(f"serve: a connection of {speaker.name} can't be let in: {error.strerror}")
+
+        one = self.folder.listen(speaker.name, mode, group)
+        one.listen(MOST_WAITING)
+        self.accepting.append(asyncio.ensure_future(accept(one, serve, refused)))
+
+    @staticmethod
+    def peer(writer):
+        """The process and the account at the other end."""
+        process, account, _ = PEER.unpack(
+            writer.get_extra_info("socket").getsockopt(socket.SOL_SOCKET, socket.SO_PEERCRED, PEER.size)
+        )
+        return f"process {process} of {account_name(account)}"
+
+    async def send(self, speaker, client, line):
+        """Sends a client's line without its tag as his speaker's, as soon as there is room and `live` is up, if he is there
+        still. A farm that is stopped takes no more lines."""
+        tag, text = without_tag(line)
+        client.has_tags = client.has_tags or bool(tag)
+        if speaker.stops(text):
+            self.end()
+            return
+        if (news := speaker.news(text)) is not None:
+            self.tell_all(f"the operator says: {escaped(news.decode(errors='surrogateescape'))}")
+            return
+        asked = await speaker.enter(text, client, tag)
+        await self.goes.wait()
+        if client.is_gone() or self.is_stopping:
+            speaker.free(asked)
+            client.tell(tag + b"error: the farm is stopped, so this is not done: " + shown(text) + b"\n")
+            return
+        if speaker.asks_ports(text):
+            self.say_ports(speaker, asked)
+            return
+        speaker.sent(self.live.say(speaker.line(text)), asked)
+
+    def say_ports(self, speaker, asked):
+        """Answers a user's client which of his ports are joined: by the words of the switch, of which he gets those of his own
+        ports. His domain isn't asked, so nothing is recorded."""
+        if speaker.name not in self.wirings:
+            self.wirings[speaker.name] = found_in(self.plan, speaker.name, wiring_in)
+        wiring = self.wirings[speaker.name]
+        asked.client.waits += 1
+
+        def hear(answer):
+            asked.client.waits -= 1
+            speaker.free(asked)
+            text = (
+                UNANSWERED + shown(asked.text)
+                if answer is None
+                else ports_told(answer.decode(), wiring.physical if wiring else ()).encode()
+            )
+            return speaker, text + b"\n", asked
+
+        self.speakers[OPERATOR].watch(self.live, hear)
+
+    def tell_all(self, text):
+        self.reports.say(f"serve: {text}")
+        for speaker in self.speakers.values():
+            speaker.tell(f"note: {text}\n".encode())
+
+    def hear_error(self, text):
+        """Hands on a line of the standard error of `live`: to the operator, and to whose domain is done again."""
+        self.reports.say(text)
+        if found := running.DONE_AGAIN.fullmatch(text):
+            self.tell_progress(*found.groups())
+        if found := running.NOBODYS.fullmatch(text):
+            self.give_up(int(found[1]))
+        if OPERATOR in self.speakers:
+            self.speakers[OPERATOR].tell(f"note: {escaped(text)}\n".encode())
+
+    def give_up(self, number):
+        """Names a line that `live` couldn't read to who sent it."""
+        for speaker in self.speakers.values():
+            if number in speaker.asked:
+                speaker.give_up([number])
+
+    def tell_progress(self, record, far):
+        """Tells the users of a domain how far its record is done again. At the first start `live` has accepted the plan by
+        now, so the sockets are opened then."""
+        domains = users_in(self.plan)
+        if not self.speakers and domains:
+            try:
+                self.open([name for users in domains for name in users])
+            except (Refused, OSError):
+                # it is said when `live` is up
+                self.close_sockets()
+                return
+        for users in domains:
+            if re.fullmatch(rf"{re.escape(users[0])}(\.\d+)?", record):
+                for name in users:
+                    if name in self.speakers:
+                        self.speakers[name].tell(f"note: what your machine did is done again: {far}\n".encode())
+
+    def say_rooms(self):
+        """Says what the rooms of all domains may take, beside what is there. Of a plan that can't be read nothing is said."""
+        domains, rooms = len(users_in(self.plan)), (self.words.room or ROOM, self.words.record_room or RECORD_ROOM)
+        if not domains:
+            return
+        with contextlib.suppress(OSError):
+            needed = Needed(domains, *rooms, self.folder.path)
+            for text in (needed.told(), *needed.warnings()):
+                self.reports.say(f"serve: {text}")
+
+    async def hear(self):
+        """Hands on what `live` says until its output ends. What a speaker is told at once is told in one piece."""
+        while lines := await self.live.some():
+            told = {}
+            for line in lines:
+                name = OPERATOR if line.startswith(b"!") else line.partition(b" ")[0].decode(errors="replace")
+                speaker = self.speakers.get(name)
+                if speaker is None:
+                    self.reports.say(f"serve: live said {line!r}")
+                    continue
+                asked = speaker.answered(line)
+                text = speaker.told(line) + b"\n"
+                if asked is not None and asked.hear:
+                    speaker, text, asked = asked.hear(line)
+                told.setdefault(speaker, []).append((text, asked))
+            for speaker, answers in told.items():
+                speaker.tell_answers(answers)
+                speaker.rest()
+
+    async def watch(self):
+        """Ends a `live` that answers nothing any more, so that it is started again."""
+        pause = self.words.patience / WATCHES
+        while True:
+            await asyncio.sleep(pause)
+            live = self.live
+            if not self.is_up or self.is_stopping:
+                continue
+            is_answered = self.speakers[OPERATOR].watch(live)
+            for _ in range(WATCHES):
+                await asyncio.sleep(pause)
+                if is_answered() or live is not self.live or self.is_stopping:
+                    break
+            else:
+                self.tell_all(f"the farm has answered nothing for {self.words.patience:g} seconds")
+                live.kill()
+
+    async def look_for_folder(self):
+        """Stops the farm when its folder was removed: nobody can come to its sockets any more, and its records are gone."""
+        while not self.folder.is_removed():
+            await asyncio.sleep(LOOK_SECONDS)
+        self.tell_all(f"{self.folder.path} was removed, so the farm ends")
+        self.end()
+
+    async def begin(self):
+        """Starts `live`, opens the sockets if they aren't open yet, and says to whom lines go."""
+        self.is_proved = await asyncio.to_thread(is_proved, "live")
+        self.live, users = await running.begin(self.call(), self.folder.records, self.begun, self.hear_error)
+        if not self.speakers:
+            self.open(users)
+        elif users != [*self.speakers][:-1]:
+            raise Refused(
+                "the plan has other users now: start serve again in a fresh folder, or give the plan as it was"
+            )
+        self.folder.keep_plan()
+        self.plan, self.wirings = self.folder.plan, {}
+        self.is_up = True
+        self.goes.set()
+        if self.is_stopping:
+            self.live.say(b"!stop\n")
+
+    def begun(self, live):
+        self.live = live
+        if self.is_stopping:
+            live.kill()
+
+    async def keep(self):
+        """Keeps the farm up until it is stopped; the status."""
+        try:
+            await self.begin()
+        except OSError as error:
+            raise Refused(f"live can't be started: {error.filename or program('live')}: {error.strerror}") from None
+        self.reports.say(
+            f"serve: {len(self.speakers) - 1} user{'s' * (len(self.speakers) != 2)}, their sockets are in "
+            f"{self.folder.path}"
+        )
+        self.say_rooms()
+        for speaker in self.speakers.values():
+            speaker.tell(b"note: the farm is up\n")
+        while True:
+            await self.hear()
+            status = await self.live.end()
+            self.is_up = False
+            if not self.is_stopping:
+                self.goes.clear()
+            for speaker in self.speakers.values():
+                speaker.forget()
+            if status == 0 or self.is_stopping:
+                self.tell_all("the farm is stopped")
+                return 0 if status <= 0 else 1
+            self.tell_all(f"the farm ended {running.how(status)} and is started again")
+            await self.go_on(running.how(status))
+            self.tell_all("the farm goes on")
+
+    async def go_on(self, how):
+        """Starts `live` again, as often as is allowed. `how` tells why it ended."""
+        has_started = True
+        while (pause := self.starts.another(has_started)) is not None:
+            await asyncio.sleep(pause)
+            try:
+                await self.begin()
+                return
+            except running.Ended as ended:
+                if self.is_stopping:
+                    raise
+                how, has_started = running.how(ended.status), True
+            except OSError as error:
+                how, has_started = f"since it can't be started ({error.strerror})", False
+                self.reports.say(f"serve: live can't be started: {error.filename or program('live')}: {error.strerror}")
+        raise Refused(
+            f"live ended {running.MOST_STARTS + 1} times in a minute, the last time {how}. What was told is in "
+            f"{self.folder.records}. Look above for what live said, and start serve again after that"
+        )
+
+    def end(self):
+        """Stops the farm when all lines that wait are answered. A farm that isn't up yet, or doesn't end in time, is ended at
+        once."""
+        if self.is_stopping:
+            return
+        self.is_stopping = True
+        self.goes.set()
+        if self.is_up:
+            self.live.say(b"!stop\n")
+            asyncio.get_running_loop().call_later(STOP_SECONDS, self.kill)
+        else:
+            self.kill()
+
+    def kill(self):
+        if self.live is not None:
+            self.live.kill()
+
+    def stop(self):
+        """Stops the farm by a signal; the second time at once."""
+        if self.is_stopping:
+            self.kill()
+        self.end()
+
+    def close_sockets(self):
+        for task in self.accepting:
+            task.cancel()
+        self.folder.remove_sockets()
+        closed, self.accepting, self.speakers = self.accepting, [], {}
+        return closed
+
+    async def close(self):
+        """Takes the sockets away and lets the clients read what they were told."""
+        self.kill()
+        self.folder.remove_new_plan()
+        clients = [client for speaker in self.speakers.values() for client in speaker.clients]
+        closed = self.close_sockets()
+        for client in clients:
+            client.writer.close()
+        await asyncio.gather(*closed, return_exceptions=True)
+
+
+async def run(words, reports):
+    server = Server(words, reports)
+    loop = asyncio.get_running_loop()
+    for one in (signal.SIGTERM, signal.SIGINT, signal.SIGHUP):
+        if signal.getsignal(one) != signal.SIG_IGN:
+            loop.add_signal_handler(one, server.stop)
+    watching = [asyncio.ensure_future(it) for it in (server.watch(), server.look_for_folder())]
+    try:
+        server.prepare()
+        return await server.keep()
+    except running.Ended as ended:
+        if server.is_stopping:
+            return 0
+        server.tell_all(ended.advice(words.PLAN, plan_faults(words.PLAN) if ended.status == running.PLAN else ""))
+        return 1
+    except Refused as refused:
+        server.tell_all(f"{refused}")
+        return 1
+    finally:
+        for it in watching:
+            it.cancel()
+        await server.close()
+
+
+def plan_faults(path):
+    """Where and why a plan is refused, as `lab plan` says it on a line; nothing if the lab isn't built."""
+    with contextlib.suppress(OSError, subprocess.TimeoutExpired), open(path, "rb") as plan:
+        if is_built("lab"):
+            done = subprocess.run(
+                [program("lab"), "plan"], stdin=plan, capture_output=True, timeout=LAB_SECONDS, check=False
+            )
+            if done.returncode == REFUSED_PLAN:
+                return "; ".join(done.stderr.decode(errors="replace").splitlines())
+    return ""
+
+
+def seconds_of(word):
+    if not re.fullmatch(r"[0-9]{1,6}(\.[0-9]+)?", word) or not float(word):
+        raise argparse.ArgumentTypeError("a number of seconds is wanted, such as 30")
+    return float(word)
+
+
+def words_of(given):
+    it = argparse.ArgumentParser(prog="serve", description="Keeps a farm up and gives each of its users a socket.")
+    add_version(it)
+    it.add_argument("PLAN", help="the file of the plan")
+    it.add_argument("DIR", help="the folder for sockets and records; it is made if it isn't there")
+    it.add_argument("--workers", type=int, metavar="N", help="as for live")
+    it.add_argument("--quantum", type=int, metavar="N", help="as for live")
+    add_rooms(it, None, None)
+    it.add_argument(
+        "--mode", type=mode_of, default=0o600, metavar="M", help="the mode of the users' sockets, default 600"
+    )
+    it.add_argument(
+        "--group", metavar="G", help="the group of the users' sockets; %%u in it stands for the user's name"
+    )
+    it.add_argument("--sync", action="store_true", help="records are on the disk before an answer is told")
+    it.add_argument(
+        "--patience",
+        type=seconds_of,
+        default=PATIENCE,
+        metavar="S",
+        help=f"how many seconds live may answer nothing before it is started again, default {PATIENCE}",
+    )
+    return it.parse_args(given)
+
+
+def main(given):
+    open_streams()
+    words = words_of(given)
+    logging.getLogger("asyncio").setLevel(logging.CRITICAL)
+    # what is made is for this account alone, unless a mode is given to it
+    os.umask(0o077)
+    most = resource.getrlimit(resource.RLIMIT_NOFILE)[1]
+    resource.setrlimit(resource.RLIMIT_NOFILE, (most if most in range(MOST_FILES) else MOST_FILES, most))
+    try:
+        with open(words.PLAN, "rb"):
+            pass
+    except OSError as error:
+        print(f"serve: the plan {words.PLAN} can't be read: {error.strerror}", file=sys.stderr)
+        return 1
+    reports = Reports()
+    try:
+        build("serve", "live")
+        return asyncio.run(run(words, reports))
+    except Refused as error:
+        reports.say(f"serve: {error}")
+        return 1
+    except OSError as error:
+        reports.say(f"serve: {error.filename or words.DIR}: {error.strerror}")
+        return 1
+    finally:
+        reports.end()

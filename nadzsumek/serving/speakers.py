@@ -1,0 +1,278 @@
+"""Who speaks to `live`: the users and the operator, each with his clients and the lines that aren't answered yet."""
+import asyncio
+import re
+import socket
+
+from .lines import MOST_LINE, PIECE, Lines
+from .pace import Pace
+from .verbs import goes_on
+
+# So many lines of a speaker may be on their way at once. `live` keeps 1,024 lines for a domain, which has four users at
+# most, so no line of a client is refused as too many.
+MOST_ON_WAY = 250
+# The operator's lines are answered by the thread that reads, so all others wait for them.
+MOST_OF_OPERATOR = 16
+# A longer line counts as several.
+BYTES_OF_ONE = 1 << 12
+# A client that lets more bytes than this wait for it is cut off.
+MOST_BACKLOG = 1 << 20
+MOST_CLIENTS = 16
+# So many bytes of a speaker's half lines are read at once, and then so many in a second.
+HALF_AT_ONCE, HALF_A_SECOND = 2 << 20, 1 << 20
+# So much of a line is told to its user if it wasn't answered.
+MOST_TOLD = 200
+# What `live` is asked now and then. The thread that reads answers it, without a lock.
+WATCHED = b"!words\n"
+# By what stands behind this, the operator tells all users something. `serve` does it by itself.
+TELL = b"!tell "
+# A user's line that `serve` answers by itself, by what the words of the switch say of the user's own ports.
+PORTS = b"ports"
+# What begins so behind a user's name answers no line: `live` says it by itself, as soon as there is something to say.
+NOTE = b"note "
+# What is told of a line that wasn't answered, before the line.
+UNANSWERED = b"error: not answered, send it again if you want it: "
+# What a client may put before a line, so that the answer goes to it alone, with the same before each of its lines.
+TAG = re.compile(rb"#[0-9]{1,9} ")
+
+
+class Asked:
+    """A line on its way: its text, who sent it (nobody if `serve` itself asks), as how many lines it counts, the tag that
+    stood before it, and what is called with its answer, or with none if there will be none: that makes of it what a speaker is
+    told, and of which line."""
+
+    def __init__(self, text, client, size, tag=b"", hear=None):
+        self.text, self.client, self.size, self.tag, self.hear = text, client, size, tag, hear
+
+
+def without_tag(line):
+    """The tag of a client's line, and the line without it. One that is too long keeps its tag, so that it stays too long."""
+    found = TAG.match(line)
+    tag = found[0] if found else b""
+    return tag, line if len(line) >= MOST_LINE else line[len(tag) :]
+
+
+class Speaker:
+    """A user, with his name before each of his lines."""
+
+    def __init__(self, name, most=MOST_ON_WAY):
+        self.name, self.most = name, most
+        self.prefix = name.encode() + b" "
+        self.clients, self.asked = set(), {}
+        self.room, self.turn = asyncio.Semaphore(most), asyncio.Lock()
+        self.half_lines = Pace(HALF_AT_ONCE, HALF_A_SECOND)
+
+    def line(self, text):
+        """The line of `live` for a client's line."""
+        return self.prefix + text + b"\n"
+
+    def told(self, answer):
+        """What a client is told of an answer."""
+        return answer[len(self.prefix) :]
+
+    async def enter(self, text, client, tag):
+        """Waits until one more line may be on its way. Clients of one speaker take turns."""
+        size = min(1 + len(text) // BYTES_OF_ONE, self.most)
+        async with self.turn:
+            for _ in range(size):
+                await self.room.acquire()
+        return Asked(text, client, size, tag)
+
+    def stops(self, _):
+        """Whether a line stops the farm."""
+        return False
+
+    def news(self, _):
+        """What a line says to all users; none if it is another line."""
+        return None
+
+    def asks_ports(self, text):
+        """Whether a line asks which ports are joined."""
+        return text.removesuffix(b"\r") == PORTS
+
+    def sent(self, number, asked):
+        """The line is that of this number among the lines of this run of `live`."""
+        self.asked[number] = asked
+        if asked.client is not None:
+            asked.client.waits += 1
+
+    def answered(self, answer):
+        """The line that is answered, none by a note: an error has its number, and all others are answered in their order. By
+        the last line of its answer it is taken off."""
+        told = self.told(answer)
+        if told.startswith(NOTE):
+            return None
+        error = re.fullmatch(rb"error (\d+) \w+", told)
+        number = int(error[1]) if error else next(iter(self.asked), None)
+        return self.asked.get(number) if goes_on(told.decode(errors="replace")) else self.take(number)
+
+    def take(self, number):
+        asked = self.asked.pop(number, None)
+        if asked is not None:
+            self.free(asked)
+            if asked.client is not None:
+                asked.client.waits -= 1
+        return asked
+
+    def free(self, asked):
+        """The line is no longer on its way."""
+        for _ in range(asked.size):
+            self.room.release()
+
+    def tell(self, text):
+        for client in [*self.clients]:
+            client.tell(text)
+
+    def tell_answers(self, answers):
+        """Tells each client its share of these lines in one piece. With each is given what was asked, or none if it is a
+        note."""
+        if not any(client.has_tags for client in self.clients) and not any(asked and asked.tag for _, asked in answers):
+            self.tell(b"".join(text for text, asked in answers if asked is None or asked.client is not None))
+            return
+        for client in [*self.clients]:
+            client.tell(b"".join(client.share(text, asked) for text, asked in answers))
+
+    def forget(self):
+        """Names the lines that weren't answered to the clients."""
+        self.give_up([*self.asked])
+
+    def give_up(self, numbers):
+        """Names the lines of these numbers, which won't be answered any more, to the clients."""
+        lost = [self.take(number) for number in numbers]
+        self.tell_answers([(UNANSWERED + shown(it.text) + b"\n", it) for it in lost])
+        for it in lost:
+            if it.hear:
+                speaker, text, asked = it.hear(None)
+                speaker.tell_answers([(text, asked)])
+                speaker.rest()
+        self.rest()
+
+    def rest(self):
+        """Ends the clients that send nothing more and wait for nothing."""
+        for client in [*self.clients]:
+            client.rest()
+
+
+def shown(text):
+    """A line as its user is told of it, cut if it is long."""
+    return text[:MOST_TOLD] + (b".." if len(text) > MOST_TOLD else b"")
+
+
+class Operator(Speaker):
+    """The operator, whose lines and answers begin with an exclamation mark. `serve` asks as he does whether `live` still
+    answers."""
+
+    def __init__(self, name, users):
+        super().__init__(name, MOST_OF_OPERATOR)
+        self.prefix, self.users, self.heard = b"!", users, 0
+
+    def line(self, text):
+        return (b"" if text.startswith(b"!") else b"!") + text + b"\n"
+
+    def told(self, answer):
+        return answer
+
+    def words(self, text):
+        """The words of a line as `live` gets it."""
+        return self.line(text)[:-1].removesuffix(b"\r").split(b" ")
+
+    def stops(self, text):
+        return self.words(text) == [b"!stop"]
+
+    def news(self, text):
+        line = self.line(text)[:-1].removesuffix(b"\r")
+        return line.removeprefix(TELL) if line.startswith(TELL) else None
+
+    def asks_ports(self, _):
+        return False
+
+    def watch(self, live, hear=None):
+        """Asks whether `live` still answers, and returns how that is seen: the question is asked no longer. `hear` is called with
+        the answer."""
+        number = live.say(WATCHED)
+        self.asked[number] = Asked(WATCHED[:-1], None, 0, hear=hear)
+        return lambda: number not in self.asked
+
+    def answered(self, answer):
+        """`!users` has a line for each user; `!restart` is answered when its domain has begun anew."""
+        words, is_last = answer.split(b" "), True
+        if words[:2] == [b"!", b"error"]:
+            return self.take(int(words[2]))
+        if words[0] == b"!users":
+            self.heard = (self.heard + 1) % self.users
+            is_last = self.heard == 0
+        wanted = words[:2] if words[0] == b"!restart" else words[:1]
+        number = next((number for number, asked in self.asked.items() if self.words(asked.text) == wanted), None)
+        return self.take(number) if is_last else self.asked.get(number)
+
+    def forget(self):
+        self.heard = 0
+        super().forget()
+
+
+class Client:
+    """One connection of a speaker."""
+
+    def __init__(self, speaker, reader, writer):
+        self.speaker, self.writer = speaker, writer
+        self.lines = Lines(reader, MOST_LINE, speaker.half_lines)
+        self.waits, self.has_ended, self.has_tags = 0, False, False
+
+    def tell(self, text):
+        """Hands over what the client is to read; if it has let too much wait, it is cut off."""
+        transport = self.writer.transport
+        if self.is_gone() or not text:
+            return
+        if transport.get_write_buffer_size() > MOST_BACKLOG:
+            transport.abort()
+            return
+        self.writer.write(text)
+
+    def share(self, text, asked):
+        """What this client gets of a line of an answer: all of a note; what answers its own line, behind the line's tag; and
+        what answers others, unless that line had a tag or this client has sent one."""
+        if asked is None:
+            return text
+        if asked.client is self:
+            return asked.tag + text
+        return b"" if asked.client is None or asked.tag or self.has_tags else text
+
+    async def read_no_more(self):
+        """Lets the client send nothing more. What is there is taken: else it couldn't read what it is told."""
+        self.writer.get_extra_info("socket").shutdown(socket.SHUT_RD)
+        while await self.lines.reader.read(PIECE):
+            pass
+
+    def is_gone(self):
+        """It was cut off, or has vanished: what it sent before isn't done any more."""
+        return self.writer.transport.is_closing()
+
+    def rest(self):
+        if self.has_ended and self.waits == 0:
+            self.writer.close()
+
+    async def serve(self, send):
+        """Sends each line of the client until it ends, and keeps it until all of them are answered."""
+        if len(self.speaker.clients) >= MOST_CLIENTS:
+            self.tell(b"error: %d connections are open, close one of them first\n" % MOST_CLIENTS)
+            self.writer.close()
+            return
+        self.speaker.clients.add(self)
+        try:
+            while not self.is_gone() and (lines := await self.lines.some()):
+                for line in lines:
+                    # thousands of lines may be left of a client that was cut off, and to pass them over takes time too
+                    if self.is_gone():
+                        break
+                    await send(self.speaker, self, line)
+            if self.lines.is_long:
+                self.tell(b"error: a line has %d bytes at most, so no more is read of this connection\n" % MOST_LINE)
+                await self.read_no_more()
+            elif self.lines.half():
+                self.tell(b"error: the last line has no line feed, so it is not sent\n")
+            self.has_ended = True
+            self.rest()
+            await self.writer.wait_closed()
+        except OSError:
+            self.writer.transport.abort()
+        finally:
+            self.speaker.clients.discard(self)

@@ -1,0 +1,171 @@
+"""All farms of a class as the children of one process, which runs until it is stopped, as a unit of systemd wants it."""
+import fcntl
+import os
+import select
+import signal
+import subprocess
+import sys
+import time
+
+from .escapes import escaped
+from .folder import Refused, holder, is_locked, program
+from .kept import class_in
+from .upkeep import Start, is_up
+
+# What starts all farms that are off, and what starts those whose plan has changed since they were started, and new ones.
+ALL, CHANGED = signal.SIGUSR1, signal.SIGUSR2
+STOPPING = (signal.SIGTERM, signal.SIGINT, signal.SIGHUP)
+# After how many seconds a farm is started again that didn't end by a stop.
+AGAIN_SECONDS = 60
+# How long a farm may be off that the supervisor was asked to start.
+OFF_SECONDS = 30
+PAUSE = 0.05
+
+
+def is_class(number):
+    """Whether a process is a `class`."""
+    try:
+        with open(f"/proc/{number}/cmdline", "rb") as it:
+            return b"class" in {os.path.basename(word) for word in it.read().split(b"\0")}
+    except OSError:
+        return False
+
+
+def supervisor_of(course):
+    """The number of the process that has all farms of a class as its children; none if there is none."""
+    number = holder(course)
+    return number if number is not None and is_class(number) else None
+
+
+def tell(course, how):
+    """Sends a signal to the supervisor of a class, if there is one."""
+    number = supervisor_of(course)
+    if number is not None:
+        os.kill(number, how)
+
+
+class Awaited(Start):
+    """A farm that the supervisor of its class starts."""
+
+    HOW = ALL
+
+    def done(self):
+        seen = time.monotonic()
+        if not is_locked(self.folder):
+            tell(self.course, self.HOW)
+        while not is_up(self.folder):
+            if is_locked(self.folder):
+                seen = time.monotonic()
+            if time.monotonic() > seen + OFF_SECONDS:
+                return False, "it did not start, see what the unit of the class says (journalctl)"
+            if self.is_quiet():
+                return (
+                    False,
+                    f"it isn't up after {self.seconds()} seconds, and {self.whose()} doesn't answer. {self.next_steps()}",
+                )
+            time.sleep(PAUSE)
+        return True, self.is_well()
+
+
+class AwaitedChange(Awaited):
+    """One whose plan has changed."""
+
+    HOW = CHANGED
+
+
+class Supervisor:
+    """The farms of a class, each with its `serve`."""
+
+    def __init__(self, course, more):
+        self.course, self.more = os.path.abspath(course), more
+        self.children, self.plans, self.begun, self.due, self.asked = {}, {}, {}, {}, set()
+        # the farms that are to be started as soon as they have ended
+        self.pending = set()
+        self.wakes, self.waking = os.pipe2(os.O_NONBLOCK | os.O_CLOEXEC)
+        # before another process can see whom it may tell
+        for it in (ALL, CHANGED, signal.SIGCHLD, *STOPPING):
+            signal.signal(it, lambda *_: None)
+        signal.set_wakeup_fd(self.waking, warn_on_full_buffer=False)
+        self.lock()
+
+    def lock(self):
+        """Has the class for itself, as far as supervisors go."""
+        self.file = os.open(os.path.join(self.course, "lock"), os.O_RDWR | os.O_CREAT | os.O_NOFOLLOW, 0o600)
+        try:
+            fcntl.lockf(self.file, fcntl.LOCK_EX | fcntl.LOCK_NB)
+        except OSError:
+            raise Refused(f"{self.course} is served already, by process {holder(self.course)}: stop it first") from None
+        os.ftruncate(self.file, 0)
+        os.pwrite(self.file, f"{os.getpid()}\n".encode(), 0)
+
+    def say(self, text):
+        print(f"class: {escaped(text)}", file=sys.stderr, flush=True)
+
+    def plan(self, farm):
+        """Which plan a farm has: each that is written is another file."""
+        it = os.stat(os.path.join(farm, "plan.toml"))
+        return it.st_ino, it.st_mtime_ns
+
+    def start(self, farm, kept):
+        """Starts a farm, unless somebody else has it. One that is just ending is started when it has ended."""
+        self.due.pop(farm, None)
+        if farm in self.children:
+            is_old = time.monotonic() > self.begun[farm] + OFF_SECONDS
+            if self.plans[farm] != self.plan(farm) or (is_old and not is_locked(farm)):
+                self.pending.add(farm)
+            return
+        if is_locked(farm):
+            return
+        self.pending.discard(farm)
+        self.plans[farm], self.begun[farm] = self.plan(farm), time.monotonic()
+        call = [program("serve"), *self.more, *kept.rights, *kept.rooms.words(), os.path.join(farm, "plan.toml"), farm]
+        # pylint: disable-next=consider-using-with
+        self.children[farm] = subprocess.Popen(call, stdin=subprocess.DEVNULL, start_new_session=True)
+
+    def look(self):
+        """Takes off the farms that have ended. One that wasn't stopped is started again after a while."""
+        for farm, process in [*self.children.items()]:
+            status = process.poll()
+            if status is None:
+                continue
+            del self.children[farm]
+            if farm in self.pending:
+                self.due[farm] = time.monotonic()
+            elif status != 0 and not self.asked & {*STOPPING}:
+                self.say(
+                    f"{os.path.basename(farm)} ended with status {status}, and is started again in {AGAIN_SECONDS} seconds"
+                )
+                self.due[farm] = time.monotonic() + AGAIN_SECONDS
+
+    def go_on(self):
+        """Starts what is to be started now."""
+        kept, asked, self.asked = class_in(self.course), self.asked, set()
+        self.due = {farm: when for farm, when in self.due.items() if farm in kept.farms}
+        for farm in kept.farms:
+            is_due = self.due.get(farm, float("inf")) <= time.monotonic()
+            is_changed = farm not in self.plans or self.plans[farm] != self.plan(farm)
+            if ALL in asked or is_due or (CHANGED in asked and is_changed):
+                self.start(farm, kept)
+
+    def wait(self):
+        """Waits until a signal comes or a farm is due."""
+        pause = max(0, min(self.due.values()) - time.monotonic()) if self.due else None
+        if select.select([self.wakes], [], [], pause)[0]:
+            self.asked |= {signal.Signals(it) for it in os.read(self.wakes, 4096)}
+
+    def is_removed(self):
+        """Whether somebody has removed the folder of the class. The farms end by themselves then."""
+        return os.fstat(self.file).st_nlink == 0
+
+    def run(self):
+        """Keeps the farms up until this process is stopped, and then stops them; the status."""
+        self.asked |= {ALL}
+        while not self.asked & {*STOPPING} and not self.is_removed():
+            self.look()
+            self.go_on()
+            self.wait()
+        for process in self.children.values():
+            process.send_signal(signal.SIGTERM)
+        # serve ends by itself within a minute
+        statuses = [process.wait() for process in self.children.values()]
+        return 1 if any(statuses) else 0

@@ -1,0 +1,275 @@
+"""How the farms of a class are started and stopped: all side by side, each with what became of it."""
+import os
+import re
+import shlex
+import subprocess
+import threading
+import time
+
+from .escapes import escaped
+from .folder import Refused, is_locked, program
+from .holders import end_serve, serve_of
+from .sheets import count
+from .status import ask_operator, operators_stream
+
+# How long a farm that begins is waited for after its last word. A long record is done again for minutes, and its progress is
+# reported.
+QUIET_SECONDS = 120
+# `serve` ends a farm that was asked to stop after 60 seconds at most, and needs a moment for itself.
+STOP_SECONDS = 65
+# How often it is said what is waited for.
+SAY_SECONDS = 5
+# How long an operator's socket may take for an answer, and how often it is asked.
+ANSWER_SECONDS, PAUSE = 3, 0.05
+# How long a farm that has ended the operator's connection may still have its folder, and how long it is tried to ask one that
+# can't be asked yet.
+LAST_SECONDS = 5
+# How often a `serve` is begun that finds the folder in use for a moment.
+MOST_BEGUN = 3
+TAKEN = b"is served already"
+# The time with which a line of `serve` begins.
+TIME = re.compile(r"^\d{4}-\d\d-\d\d \d\d:\d\d:\d\d ")
+# How many bytes of the end of its log are looked at.
+LAST_BYTES = 4096
+# The status of a program that Ctrl-C has ended.
+INTERRUPTED = 130
+
+
+def say(text):
+    print(escaped(text), flush=True)
+
+
+def is_up(farm):
+    """Whether the operator of a farm is answered."""
+    try:
+        return any(it.startswith("!words ") for it in ask_operator(farm, "!words", ANSWER_SECONDS))
+    except OSError:
+        return False
+
+
+class Work(threading.Thread):
+    """What is done with one farm, beside the others. `outcome` is at last whether it went well, and what became of the
+    farm."""
+
+    def __init__(self, folder, course):
+        super().__init__(daemon=True)
+        self.folder, self.course, self.name = folder, course, os.path.basename(folder)
+        self.begun, self.outcome = time.monotonic(), None
+
+    def run(self):
+        try:
+            self.outcome = self.done()
+        except (OSError, Refused) as error:
+            self.outcome = False, f"{error}"
+
+    def done(self):
+        """Does it, and returns the outcome."""
+        raise NotImplementedError
+
+    def waited(self):
+        """What is waited for."""
+        raise NotImplementedError
+
+    def left(self):
+        """What goes on when nobody waits any longer."""
+        raise NotImplementedError
+
+    def seconds(self):
+        """For how many seconds it has been waited."""
+        return round(time.monotonic() - self.begun)
+
+    def whose(self):
+        """Who has the folder."""
+        number = serve_of(self.folder)
+        return f"its serve (process {number})" if number else f"what has locked {os.path.join(self.folder, 'lock')}"
+
+
+class Start(Work):
+    """A farm that is started, unless it is up."""
+
+    def __init__(self, folder, course, users, rights):
+        super().__init__(folder, course)
+        self.users, self.rights, self.process, self.starts = users, rights, None, 0
+        self.log, self.size, self.news, self.last = os.path.join(folder, "serve.log"), None, (None, 0), self.begun
+
+    def done(self):
+        while not is_up(self.folder):
+            if self.process is not None and self.process.poll() is not None:
+                if TAKEN not in self.said() or self.starts == MOST_BEGUN:
+                    return False, f"it did not start, see {self.log}{self.told()}"
+                self.process = None
+            if self.process is None and not is_locked(self.folder):
+                self.start_serve()
+            if self.is_quiet():
+                return (
+                    False,
+                    f"it isn't up after {self.seconds()} seconds, and {self.whose()} says nothing more{self.told()}. "
+                    f"{self.next_steps()}",
+                )
+            time.sleep(PAUSE)
+        return True, self.is_well()
+
+    def is_well(self):
+        """What is said when it is up."""
+        return f"up, {count(self.users, 'user')}"
+
+    def start_serve(self):
+        self.starts += 1
+        self.size = os.path.getsize(self.log) if os.path.exists(self.log) else 0
+        with open(self.log, "ab") as log:
+            # pylint: disable-next=consider-using-with
+            self.process = subprocess.Popen(
+                [program("serve"), *self.rights, os.path.join(self.folder, "plan.toml"), self.folder],
+                stdin=subprocess.DEVNULL,
+                stdout=log,
+                stderr=log,
+                start_new_session=True,
+            )
+
+    def is_quiet(self):
+        """Whether it isn't waited any longer, since nothing new was seen."""
+        news = self.whose(), os.path.getsize(self.log) if os.path.exists(self.log) else 0
+        if news != self.news:
+            self.news, self.last = news, time.monotonic()
+        return time.monotonic() > self.last + QUIET_SECONDS
+
+    def said(self):
+        """What the `serve` that was begun here has said last."""
+        if self.size is None:
+            return b""
+        with open(self.log, "rb") as log:
+            end = log.seek(0, os.SEEK_END)
+            log.seek(max(self.size, end - LAST_BYTES))
+            return log.read()
+
+    def told(self):
+        """The last line of that without its time, behind a colon."""
+        lines = self.said().decode(errors="surrogateescape").split("\n")
+        return next((f": {TIME.sub('', it)}" for it in reversed(lines) if it), "")
+
+    def next_steps(self):
+        course = shlex.quote(self.course)
+        return f"class status {course} shows when it is up, and class stop {course} ends it"
+
+    def waited(self):
+        return f"no answer yet after {self.seconds()} seconds from {self.whose()}{self.told()}"
+
+    def left(self):
+        return f"not up yet, and {self.whose()} goes on. {self.next_steps()}"
+
+
+class Stop(Work):
+    """A farm that is stopped: by its operator's socket, or by a signal as long as it has none that takes anything."""
+
+    # what its operator says
+    LINES = b"!stop\n"
+
+    def __init__(self, folder, course):
+        super().__init__(folder, course)
+        self.stream, self.has_signalled, self.why = None, False, None
+
+    def done(self):
+        if not is_locked(self.folder):
+            return True, "off"
+        try:
+            return self.stopped()
+        finally:
+            if self.stream is not None:
+                self.stream.close()
+
+    def stopped(self):
+        """Asks it as soon as it can be asked, and waits until nobody has the folder."""
+        ended = None
+        while is_locked(self.folder):
+            now = time.monotonic()
+            if self.stream is not None and ended is None and self.is_cut():
+                ended = now
+            if self.stream is None or (ended is not None and now > ended + LAST_SECONDS):
+                self.ask()
+            if not self.is_asked() and now > self.begun + LAST_SECONDS:
+                return False, f"it can't be asked to stop: {self.why}"
+            if now > self.begun + STOP_SECONDS:
+                return False, f"it did not stop in {STOP_SECONDS} seconds: {self.whose()} is there still"
+            time.sleep(PAUSE)
+        return True, "off, ended by a signal" if self.has_signalled else "off"
+
+    def is_asked(self):
+        return self.stream is not None or self.has_signalled
+
+    def ask(self):
+        """Asks it once. The connection stays open, so that the line isn't lost."""
+        if self.stream is None:
+            try:
+                self.stream = operators_stream(self.folder, ANSWER_SECONDS)
+                self.stream.sendall(self.LINES)
+                self.stream.setblocking(False)
+                return
+            except OSError as error:
+                self.why = f"{error.strerror or error}"
+                if self.stream is not None:
+                    self.stream.close()
+                    self.stream = None
+        if not self.has_signalled:
+            try:
+                self.has_signalled = end_serve(self.folder)
+                self.why = f"{self.whose()} is no serve that this account can see"
+            except OSError as error:
+                self.why = f"{self.whose()} can't be ended: {error.strerror}"
+
+    def is_cut(self):
+        """Whether the farm has ended the connection."""
+        try:
+            while piece := self.stream.recv(LAST_BYTES):
+                del piece
+            return True
+        except BlockingIOError:
+            return False
+        except OSError:
+            return True
+
+    def waited(self):
+        if not self.is_asked():
+            return f"it can't be asked to stop yet: {self.why}"
+        return f"not off yet after {self.seconds()} seconds: {self.whose()} ends when all that waits there is answered"
+
+    def left(self):
+        if not self.is_asked():
+            return "it isn't asked to stop"
+        return f"not off yet, but asked to stop: {self.whose()} goes on with that"
+
+
+def all_done(works):
+    """Does works side by side, and says each few seconds what is waited for; those that failed."""
+    for work in works:
+        work.start()
+    while waiting := [it for it in works if it.is_alive()]:
+        waiting[0].join(SAY_SECONDS)
+        if waiting[0].is_alive():
+            say(f"{waiting[0].name}: {waiting[0].waited()}")
+    return [it for it in works if not (it.outcome or (False, ""))[0]]
+
+
+def do_all(works):
+    """Does works side by side, and says what became of each, in their order, and each few seconds what is waited for; the
+    status."""
+    for work in works:
+        work.start()
+    failed = at = 0
+    try:
+        while at < len(works):
+            works[at].join(SAY_SECONDS)
+            if works[at].is_alive():
+                waiting = [it for it in works if it.is_alive()]
+                more = f" ({len(waiting)} farms are waited for)" if len(waiting) > 1 else ""
+                if waiting:
+                    say(f"{waiting[0].name}: {waiting[0].waited()}{more}")
+                continue
+            is_well, told = works[at].outcome or (False, "see above")
+            failed += not is_well
+            say(f"{works[at].name}: {told}")
+            at += 1
+    except KeyboardInterrupt:
+        for work in works[at:]:
+            say(f"{work.name}: {work.outcome[1] if work.outcome else work.left()}")
+        return INTERRUPTED
+    return 1 if failed else 0

@@ -1,0 +1,172 @@
+"""The verbs that a person at a terminal has, and what stands behind each."""
+import difflib
+import re
+from typing import NamedTuple
+
+from .hints import meant
+
+
+class Kind(NamedTuple):
+    """What a word behind a verb must be."""
+
+    pattern: str
+    most: int
+    meaning: str
+    example: str
+
+
+HEX = Kind(r"([0-9a-fA-F]{2})+", 0, "an even number of hexadecimal digits", "01000103")
+WORD = Kind(r"[0-9a-fA-F]{8}", 0, "eight hexadecimal digits", "80000100")
+HOST = Kind(r"\d+", 255, "the number of a host", "0")
+NODE = Kind(r"\d+", 255, "the number of a node", "0")
+PORT = Kind(r"\d+", 31, "the number of a port", "7")
+FILE = Kind(r".+", 0, "a file", "hello.s")
+TEXT = Kind(r".+", 0, "a text", '"hello\\n"')
+SENTENCE = Kind(r".+", 0, "a sentence", "we end at five")
+USER = Kind(r"[a-z0-9-]{1,32}", 0, "a user's name", "ann")
+
+
+class Verb(NamedTuple):
+    """The words behind a verb, an example, what the verb does, how many of the words may be left out, and what else is
+    to be known."""
+
+    kinds: tuple
+    example: str
+    meaning: str
+    optional: int = 0
+    more: tuple = ()
+
+
+LOADING = (
+    "a file whose name ends with .occ has a program in occam, which is compiled instead",
+    "the file is looked for in the folder where this terminal was opened, then among the examples",
+    "a node that has booted takes no other boot until it is reset (reset 0): if the bytes would boot nothing it says so,",
+    "and asks what to do",
+)
+ROOMS = (
+    "then rests if the machine rests, the bytes of its room that are used and that there are, and the same of its records",
+)
+# The verbs of a user whose ports aren't known.
+USERS = {
+    "config": Verb(
+        (HEX,), "config 01000103", "sends configuration bytes: here 01 joins the ports 0 and 1, 03 makes ready"
+    ),
+    "write": Verb((HOST, HEX), "write 0 68690a", "gives a host bytes to send"),
+    "boot": Verb(
+        (HOST, HEX), "boot 0 b424f224f2243081ff21f5", "boots the node that is joined with the host with this code"
+    ),
+    "poke": Verb((HOST, WORD, WORD), "poke 0 80000100 12345678", "stores a word in a booting node, through the host"),
+    "peek": Verb((HOST, WORD), "peek 0 80000100", "reads a word of a booting node, through the host"),
+    "collect": Verb((HOST,), "collect 0", "takes all bytes that came to the host"),
+    "reset": Verb((NODE,), "reset 0", "resets a node; its memory stays"),
+    "look": Verb((NODE,), "look 0", "tells a node's state, and how many bytes each link dropped"),
+    "why": Verb((NODE,), "why 0", "tells why a node waits, halted or runs on; why alone tells it of all nodes", 1),
+    "rest": Verb(
+        (), "rest", "tells whether something goes on in your machine: quiet or busy; full if its room is used up"
+    ),
+    "restart": Verb(
+        (), "restart", "makes your machine as it was opened, and gives its room back, if it is yours alone"
+    ),
+    "ports": Verb((), "ports", "tells which ports are joined, and what is there; it changes nothing"),
+    "join": Verb(
+        (PORT, PORT), "join P Q", "joins two ports both ways and makes them ready: those of a link and of a host"
+    ),
+    "load": Verb(
+        (HOST, FILE), "load 0 hello.s", "assembles a program and boots it; long code is poked first", more=LOADING
+    ),
+    "send": Verb((HOST, TEXT), 'send 0 "hello\\n"', "gives a host the bytes of a text"),
+    "text": Verb((HOST,), "text 0", "takes all bytes that came to the host, as collect does"),
+}
+OPERATORS = {
+    "words": Verb((), "words", "the words of the 32 physical outputs"),
+    "users": Verb(
+        (), "users", "for each user the lines answered, the events recorded, the limit, and quiet or busy", more=ROOMS
+    ),
+    "memory": Verb((), "memory", "the bytes of memory that the farm has, and that all its rooms may take together"),
+    "restart": Verb((USER,), "restart ann", "makes the domain of a user as it was opened, for all its users"),
+    "tell": Verb((SENTENCE,), "tell we end at five", "tells all users of the farm something, as a note"),
+    "stop": Verb((), "stop", "ends the farm for all its users; serve goes on where it was when it is started again"),
+}
+ALL = {
+    "help": Verb((), "help load", "lists the verbs, or tells of one"),
+    "quit": Verb((), "quit", "leaves the farm as it is and ends this terminal, as exit and Ctrl-D do"),
+}
+# Another word for a verb.
+ALIASES = {"exit": "quit"}
+# The verbs whose answers begin with a number of their lines.
+NUMBERED = {name for name, verb in USERS.items() if verb.kinds[:1] in ((HOST,), (NODE,)) and not verb.optional}
+
+
+class Wrong(Exception):
+    """A line that isn't sent: which word is wrong, and what to try."""
+
+
+def is_of(kind, word):
+    if re.fullmatch(kind.pattern, word, re.ASCII) is None:
+        return False
+    digits = word.lstrip("0") or "0"
+    return not kind.most or (len(digits) <= len(str(kind.most)) and int(digits) <= kind.most)
+
+
+def with_ports(ports):
+    """The verbs of a user, with examples for his own ports and his own host."""
+    link, port = (PORT._replace(example=f"{it}") for it in (ports.link, ports.port))
+    config, host = f"config 01{ports.link:02x}{ports.port:02x}03", HOST._replace(example=f"{ports.host}")
+    own = {
+        name: verb._replace(kinds=(host, *verb.kinds[1:]), example=verb.example.replace("0", host.example, 1))
+        for name, verb in USERS.items()
+        if verb.kinds[:1] == (HOST,)
+    }
+    meaning = f"sends configuration bytes: here 01 joins the ports {ports.link} and {ports.port}, 03 makes ready"
+    own["config"] = USERS["config"]._replace(example=config, meaning=meaning)
+    own["join"] = USERS["join"]._replace(
+        kinds=(link, port),
+        example=f"join {ports.link} {ports.port}",
+        meaning=f"joins two ports both ways and makes them ready: {config}",
+    )
+    return {**USERS, **own}
+
+
+def find(table, word):
+    """The verb of this name."""
+    if word in table:
+        return table[word]
+    hint = meant(word, table) if word.lower() not in table else None
+    if hint:
+        raise Wrong(f"there is no verb {word!r}. {hint}")
+    examples = {name: verb.example for name, verb in table.items()} | {it: it for it in ALIASES}
+    near = difflib.get_close_matches(word.lower(), examples, 1, 0.5)
+    raise Wrong(
+        f"there is no verb {word!r}. " + (f"Is it {near[0]}? Try: {examples[near[0]]}" if near else "Try: help")
+    )
+
+
+def check(name, verb, words):
+    """Refuses the words behind a verb if their number is wrong, or one of them."""
+    for kind, word in zip(verb.kinds, words):
+        if not is_of(kind, word):
+            raise Wrong(
+                f"{word!r} is wrong: {name} wants {kind.meaning} there, such as {kind.example}. Try: {verb.example}"
+            )
+    if len(words) < len(verb.kinds) - verb.optional:
+        kind = verb.kinds[len(words)]
+        raise Wrong(f"{name} wants {kind.meaning} behind it, such as {kind.example}. Try: {verb.example}")
+    if len(words) > len(verb.kinds):
+        raise Wrong(
+            f"{words[len(verb.kinds)]!r} is too much behind {verb.example.partition(' ')[0]}. Try: {verb.example}"
+        )
+
+
+def goes_on(answer):
+    """Whether this isn't the last line of an answer: only `why` has several, and its last is `why end`."""
+    return answer.startswith("why ") and not re.fullmatch(r"why (end|\d+ nosuch)", answer)
+
+
+def help_lines(table, word=None):
+    """An example of each verb with what it does, or of one."""
+    chosen = {word: find(table, word)} if word else table
+    return [
+        line
+        for verb in chosen.values()
+        for line in (f"{verb.example:<32} {verb.meaning}", *(f"{'':<32} {text}" for text in verb.more))
+    ]

@@ -1,0 +1,160 @@
+"""Chromium without a window: a page is opened, asked and seen, over the pipe of its DevTools protocol."""
+import base64
+import json
+import os
+import selectors
+import shutil
+import subprocess
+import sys
+import tempfile
+import time
+
+SECONDS = 30
+# Debian's package and its program
+PACKAGE = "chromium"
+INSTALL = ["apt-get", "install", "-y", "-q", "--no-install-recommends", PACKAGE]
+
+
+def chromium():
+    """The path of the program. It is installed if it isn't there and this is root on a machine with apt-get."""
+    found = shutil.which(PACKAGE)
+    if found is not None:
+        return found
+    if os.geteuid() != 0 or shutil.which("apt-get") is None:
+        sys.exit(f"there is no {PACKAGE} here: install Debian's package as root, by `{' '.join(INSTALL)}`")
+    print(f"there is no {PACKAGE} here: installing Debian's package", file=sys.stderr)
+    quiet = {**os.environ, "DEBIAN_FRONTEND": "noninteractive"}
+    for words in (["apt-get", "update", "-q"], INSTALL):
+        done = subprocess.run(words, env=quiet, stdout=subprocess.DEVNULL, stderr=subprocess.PIPE, check=False)
+        if done.returncode != 0:
+            sys.exit(f"`{' '.join(words)}` failed, so there is no {PACKAGE}: {done.stderr.decode()[-500:]}")
+    return shutil.which(PACKAGE) or sys.exit(f"Debian's package has no {PACKAGE}")
+
+
+class PageFailed(Exception):
+    """The page or the browser said that something went wrong."""
+
+
+class Browser:
+    """A browser with one page. Whatever the page's script throws is kept in `faults`."""
+
+    def __init__(self):
+        self.folder = tempfile.TemporaryDirectory(ignore_cleanup_errors=True)
+        asks, self.asked = os.pipe()
+        self.told, tells = os.pipe()
+        # The browser takes commands from its third file and writes to its fourth.
+        words = [
+            chromium(),
+            "--headless=new",
+            "--no-sandbox",
+            "--disable-gpu",
+            "--disable-dev-shm-usage",
+            "--hide-scrollbars",
+            "--no-first-run",
+            "--disable-background-networking",
+            "--disable-component-update",
+            "--remote-debugging-pipe",
+            f"--user-data-dir={self.folder.name}",
+            "about:blank",
+        ]
+        self.process = subprocess.Popen(
+            ["bash", "-c", f'exec "$@" 3<&{asks} 4>&{tells}', "bash", *words],
+            pass_fds=(asks, tells),
+            stdout=subprocess.DEVNULL,
+            stderr=subprocess.DEVNULL,
+        )
+        os.close(asks)
+        os.close(tells)
+        self.rest, self.count, self.faults, self.session = b"", 0, [], None
+        self.waits = selectors.DefaultSelector()
+        self.waits.register(self.told, selectors.EVENT_READ)
+        page = next(it for it in self.ask("Target.getTargets")["targetInfos"] if it["type"] == "page")
+        self.session = self.ask("Target.attachToTarget", targetId=page["targetId"], flatten=True)["sessionId"]
+        for domain in ("Page", "Runtime", "Network"):
+            self.ask(f"{domain}.enable")
+
+    def __enter__(self):
+        return self
+
+    def __exit__(self, *_):
+        os.close(self.asked)
+        try:
+            self.process.wait(timeout=SECONDS)
+        except subprocess.TimeoutExpired:
+            self.process.kill()
+            self.process.wait()
+        os.close(self.told)
+        self.folder.cleanup()
+
+    def hear(self, until):
+        """The next message."""
+        while b"\0" not in self.rest:
+            if not self.waits.select(max(0, until - time.monotonic())):
+                raise PageFailed("the browser says nothing")
+            more = os.read(self.told, 1 << 20)
+            if not more:
+                raise PageFailed("the browser has ended")
+            self.rest += more
+        message, self.rest = self.rest.split(b"\0", 1)
+        return json.loads(message)
+
+    def note(self, message):
+        method, more = message.get("method"), message.get("params", {})
+        if method == "Runtime.exceptionThrown":
+            self.faults.append(json.dumps(more["exceptionDetails"].get("exception", {}).get("description", more)))
+        elif method == "Network.requestWillBeSent" and not more["request"]["url"].startswith("file:"):
+            self.faults.append(f"the page asks for {more['request']['url']}")
+
+    def ask(self, method, **words):
+        """What a command answers."""
+        self.count += 1
+        session = {} if self.session is None else {"sessionId": self.session}
+        text = json.dumps({"id": self.count, "method": method, "params": words, **session}).encode() + b"\0"
+        while text:
+            text = text[os.write(self.asked, text) :]
+        until = time.monotonic() + SECONDS
+        while (message := self.hear(until)).get("id") != self.count:
+            self.note(message)
+        if "error" in message:
+            raise PageFailed(f"{method}: {message['error']}")
+        return message["result"]
+
+    def open(self, path, width=1280, height=800):
+        """Opens a file, and waits until its script has run. The answer is how many seconds that took."""
+        self.size(width, height)
+        self.ask("Page.navigate", url="about:blank")
+        while self.look("location.href") != "about:blank":
+            time.sleep(0.01)
+        self.faults = []
+        begun = time.monotonic()
+        self.ask("Page.navigate", url=f"file://{path}")
+        while not self.look("location.protocol == 'file:' && document.readyState == 'complete'"):
+            if time.monotonic() > begun + SECONDS:
+                raise PageFailed(f"{path} isn't open after {SECONDS} s")
+            time.sleep(0.01)
+        return time.monotonic() - begun
+
+    def look(self, expression):
+        """The value of an expression in the page."""
+        told = self.ask("Runtime.evaluate", expression=expression, returnByValue=True)
+        if "exceptionDetails" in told:
+            raise PageFailed(f"{expression}: {told['exceptionDetails']}")
+        return told["result"].get("value")
+
+    def press(self, key, shift=False):
+        """Presses a key, as `a`, `ArrowLeft` or `Home`."""
+        for kind in ("keyDown", "keyUp"):
+            self.ask("Input.dispatchKeyEvent", type=kind, key=key, modifiers=8 if shift else 0)
+
+    def size(self, width, height):
+        self.ask("Emulation.setDeviceMetricsOverride", width=width, height=height, deviceScaleFactor=1, mobile=False)
+
+    def colours(self, scheme):
+        """`light` or `dark`."""
+        self.ask("Emulation.setEmulatedMedia", features=[{"name": "prefers-color-scheme", "value": scheme}])
+
+    def picture(self, path):
+        """A picture of the whole page."""
+        told = self.ask("Page.captureScreenshot", format="png", captureBeyondViewport=True)
+        with open(path, "wb") as it:
+            it.write(base64.b64decode(told["data"]))
