@@ -7,7 +7,11 @@
         ann.load(0, "hello.s")
         print(ann.collect(0, count=6, seconds=5))
 """
+
+from __future__ import annotations
+
 from importlib import import_module
+from typing import Any
 
 # Where each name is. A module is imported when a name of it is first used: the compiler of occam needs none of them.
 _MODULES = {
@@ -18,7 +22,7 @@ _MODULES = {
 __all__ = ["Farm", "FarmError", "Loaded", "Look", "NoFarm", "NotAnswered", "Note", "Refused", "Rest", "State", "Why"]
 
 
-def __getattr__(name):
+def __getattr__(name: str) -> Any:
     if name not in _MODULES:
         raise AttributeError(f"module {__name__!r} has no attribute {name!r}")
     return getattr(import_module(f".{_MODULES[name]}", __name__), name)

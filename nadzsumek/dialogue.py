@@ -1,11 +1,15 @@
 """One connection of a user, without the socket: which lines are on their way, and what comes for each. Each line has a tag, so
 that its answer comes here alone, whoever else speaks as this user."""
+
+from __future__ import annotations
+
 import collections
+from collections.abc import Callable
 
 from nadzsumek.serving.verbs import goes_on
 
 from .failures import NoFarm
-from .results import note_of
+from .results import Note, note_of
 
 # How many lines are sent at most before the first of them is answered.
 AT_ONCE = 64
@@ -21,19 +25,21 @@ USERS = "!users "
 class Pending:
     """A line on its way, and the lines of its answer that have come. `tell`, if there is one, is called with the last."""
 
-    def __init__(self, tag, line):
-        self.tag, self.line, self.answers, self.is_whole, self.tell = tag, line, [], False, None
+    def __init__(self, tag: str, line: str) -> None:
+        self.tag, self.line, self.is_whole = tag, line, False
+        self.answers: list[str] = []
+        self.tell: Callable[[], object] | None = None
 
-    def message(self):
+    def message(self) -> bytes:
         """What is sent."""
         return f"{self.tag} {self.line}\n".encode("utf-8", "surrogateescape")
 
-    def hear(self, answer):
+    def hear(self, answer: str) -> None:
         self.answers.append(answer)
         if not goes_on(answer) and not answer.startswith(USERS):
             self.end()
 
-    def end(self):
+    def end(self) -> None:
         """No more comes."""
         self.is_whole = True
         if self.tell:
@@ -43,28 +49,30 @@ class Pending:
 class Dialogue:
     """The lines on their way, and the notes that came between their answers."""
 
-    def __init__(self, noted):
-        self.noted, self.count, self.waiting, self.held = noted, 0, {}, b""
-        self.notes, self.fault = collections.deque(maxlen=MOST_NOTES), "the farm has ended the connection"
+    def __init__(self, noted: Callable[[Note], object] | None) -> None:
+        self.noted, self.count, self.held = noted, 0, b""
+        self.waiting: dict[str, Pending] = {}
+        self.notes: collections.deque[Note] = collections.deque(maxlen=MOST_NOTES)
+        self.fault = "the farm has ended the connection"
 
-    def ask(self, line):
+    def ask(self, line: str) -> Pending:
         """A line that is to be sent."""
         self.count = self.count % MOST_TAG + 1
         pending = Pending(f"#{self.count}", line)
         self.waiting[pending.tag] = pending
         return pending
 
-    def forget(self, pending):
+    def forget(self, pending: Pending) -> None:
         """Waits for an answer no longer. What still comes of it is passed over."""
         self.waiting.pop(pending.tag, None)
 
-    def feed(self, piece):
+    def feed(self, piece: bytes) -> None:
         """Hears what came. What answers others is passed over."""
         *lines, self.held = (self.held + piece).split(b"\n")
         for line in lines:
             self.hear(line.decode("utf-8", "surrogateescape"))
 
-    def hear(self, line):
+    def hear(self, line: str) -> None:
         tag, _, answer = line.partition(" ")
         if tag in self.waiting:
             self.answer(self.waiting[tag], answer)
@@ -75,7 +83,7 @@ class Dialogue:
         elif line.startswith(ERROR):
             self.fault = line.removeprefix(ERROR)
 
-    def answer(self, pending, answer):
+    def answer(self, pending: Pending, answer: str) -> None:
         """A line of an answer. Those about users that came for a line before are all that come."""
         for before in [*self.waiting.values()]:
             if before is pending:
@@ -87,6 +95,6 @@ class Dialogue:
         if pending.is_whole:
             self.forget(pending)
 
-    def ended(self):
+    def ended(self) -> NoFarm:
         """What is raised when the connection has ended."""
         return NoFarm(self.fault)

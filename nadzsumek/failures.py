@@ -1,5 +1,7 @@
 """What can go wrong with a line of a user."""
 
+from __future__ import annotations
+
 
 class FarmError(Exception):
     """A line that wasn't done as it was asked. `collected` has the bytes that a `collect` with a count or a time had taken
@@ -15,7 +17,15 @@ class Refused(FarmError):
     answer, and `number` the number that an `error` gives: that of the line among all lines of the farm's run, else none.
     """
 
-    def __init__(self, word, line, answer, number=None, taken=None, meaning=None):
+    def __init__(
+        self,
+        word: str,
+        line: str,
+        answer: str,
+        number: int | None = None,
+        taken: int | None = None,
+        meaning: str | None = None,
+    ) -> None:
         super().__init__(f"{line[:60]}: {answer}" + (f" ({meaning})" if meaning else ""))
         self.word, self.line, self.answer, self.number, self.taken = word, line, answer, number, taken
 
@@ -23,7 +33,7 @@ class Refused(FarmError):
 class NotAnswered(FarmError):
     """A line that wasn't answered: in time, or before the farm ended. It may have been done."""
 
-    def __init__(self, line, why):
+    def __init__(self, line: str, why: str) -> None:
         super().__init__(f"{line[:60]}: {why}")
         self.line = line
 

@@ -1,9 +1,15 @@
 """A farm that `serve` keeps up, and its users: one call after another, or for asyncio."""
+
+from __future__ import annotations
+
 import asyncio
 import contextlib
 import os
+import socket
 import threading
 import time
+from collections.abc import Callable
+from typing import TYPE_CHECKING, Any
 
 from nadzsumek.serving import folder as folders
 from nadzsumek.serving.connections import opened
@@ -12,9 +18,17 @@ from nadzsumek.serving.ports import ports_of
 
 from .dialogue import AT_ONCE, Dialogue
 from .failures import NoFarm, NotAnswered
-from .results import check
-from .verbs import Collecting, Verbs, loaded, question
+from .results import Note, check
+from .verbs import Collecting, Program, Verbs, loaded, question
 
+if TYPE_CHECKING:
+    from nadzsumek.serving.ports import Ports
+
+    from .dialogue import Pending
+    from .verbs import Question
+
+# What is called with each note.
+Noted = Callable[[Note], object]
 # How long an answer is waited for unless another time is given.
 SECONDS = 60
 PIECE = 1 << 16
@@ -23,10 +37,10 @@ PIECE = 1 << 16
 class Farm:
     """The farm in a folder, as `serve PLAN DIR` has it; or the farms of a class, by the folder of the class."""
 
-    def __init__(self, folder):
+    def __init__(self, folder: str) -> None:
         self.folder = os.fspath(folder)
 
-    def users(self):
+    def users(self) -> list[str]:
         """The names of those who have sockets in the folder, sorted, without the operator; of a class, the names of all students."""
         try:
             if os.path.isfile(os.path.join(self.folder, folders.CLASS)):
@@ -37,24 +51,24 @@ class Farm:
         except OSError as error:
             raise NoFarm(f"{self.folder}: {error.strerror}") from None
 
-    def place(self, name):
+    def place(self, name: str) -> tuple[str, str]:
         """The folder of the farm in which a user is, and the user's name there."""
         try:
             return place_of(self.folder, name)
         except folders.Refused as refused:
             raise NoFarm(f"{refused}") from None
 
-    def user(self, name, noted=None, seconds=SECONDS):
+    def user(self, name: str, noted: Noted | None = None, seconds: float = SECONDS) -> User:
         """A connection as this user, to be used in `with`. `noted` is called with each note that comes, and `seconds` is how long
         an answer is waited for."""
         return User(*self.place(name), noted, seconds)
 
-    def async_user(self, name, noted=None, seconds=SECONDS):
+    def async_user(self, name: str, noted: Noted | None = None, seconds: float = SECONDS) -> AsyncUser:
         """The same for asyncio, to be used in `async with`."""
         return AsyncUser(*self.place(name), noted, seconds)
 
 
-def connected(folder, name):
+def connected(folder: str, name: str) -> socket.socket:
     """A connection with the socket of this name."""
     try:
         return opened(folder, name)
@@ -64,7 +78,7 @@ def connected(folder, name):
         raise NoFarm(f"{folder}: {error.strerror}") from None
 
 
-def pieces(lines):
+def pieces(lines: list[str]) -> list[list[str]]:
     """Lines as they are sent, some at once."""
     return [lines[at : at + AT_ONCE] for at in range(0, len(lines), AT_ONCE)]
 
@@ -73,14 +87,14 @@ class Speaking(Verbs):
     """What both kinds of user have: `name`, and `ports`, which are those of the first wired link of node 0 and of the user's first
     host, and the number of this host; none if the plan can't be read."""
 
-    def __init__(self, folder, name, noted, seconds):
+    def __init__(self, folder: str, name: str, noted: Noted | None, seconds: float) -> None:
         self.folder, self.name, self.seconds, self.dialogue = folder, name, seconds, Dialogue(noted)
 
     @property
-    def ports(self):
+    def ports(self) -> Ports | None:
         return ports_of(self.folder, self.name)
 
-    def late(self, pending):
+    def late(self, pending: Pending) -> NotAnswered:
         """What is raised if no answer has come in time."""
         return NotAnswered(pending.line, f"no answer has come in {self.seconds:g} seconds")
 
@@ -88,40 +102,40 @@ class Speaking(Verbs):
 class User(Speaking):
     """A user's connection, whose calls return when the farm has answered. Several threads may share it: their calls take turns."""
 
-    def __init__(self, folder, name, noted, seconds):
+    def __init__(self, folder: str, name: str, noted: Noted | None, seconds: float) -> None:
         super().__init__(folder, name, noted, seconds)
         self.stream, self.turn = connected(folder, name), threading.RLock()
 
-    def __enter__(self):
+    def __enter__(self) -> User:
         return self
 
-    def __exit__(self, *_):
+    def __exit__(self, *_: None) -> None:
         self.close()
 
-    def close(self):
+    def close(self) -> None:
         """Ends the connection."""
         self.stream.close()
 
     @property
-    def notes(self):
+    def notes(self) -> list[Note]:
         """The notes that have come so far, the newest last."""
         with self.turn:
             self.hear_rest()
         return [*self.dialogue.notes]
 
-    def hear_rest(self):
+    def hear_rest(self) -> None:
         """Hears what is there already."""
         with contextlib.suppress(OSError):
             self.stream.setblocking(False)
             while piece := self.stream.recv(PIECE):
                 self.dialogue.feed(piece)
 
-    def do(self, asked):
+    def do(self, asked: Question) -> Any:
         with self.turn:
             answers = [it for piece in pieces(asked.lines) for it in self.exchange(piece, asked.strict)]
         return asked.result(answers)
 
-    def exchange(self, lines, strict):
+    def exchange(self, lines: list[str], strict: bool) -> list[list[str]]:
         """Sends lines, and returns the answer to each."""
         waiting = [self.dialogue.ask(line) for line in lines]
         try:
@@ -140,7 +154,7 @@ class User(Speaking):
             for it in waiting:
                 self.dialogue.forget(it)
 
-    def send_all(self, message):
+    def send_all(self, message: bytes) -> None:
         """Sends lines. If they aren't taken in time the connection ends, since the last may be half sent."""
         try:
             self.stream.settimeout(self.seconds)
@@ -149,7 +163,7 @@ class User(Speaking):
             self.close()
             raise
 
-    def await_answer(self, pending):
+    def await_answer(self, pending: Pending) -> None:
         end = time.monotonic() + self.seconds
         while not pending.is_whole:
             self.stream.settimeout(max(0.001, end - time.monotonic()))
@@ -160,11 +174,11 @@ class User(Speaking):
             if time.monotonic() > end and not pending.is_whole:
                 raise self.late(pending)
 
-    def load(self, host, program):
+    def load(self, host: int, program: Program) -> Any:
         """Boots a program: the file of its text, an example's name, or bytes of code. A `Loaded`."""
         return self.do(loaded(host, program))
 
-    def collect(self, host, count=None, seconds=None):
+    def collect(self, host: int, count: int | None = None, seconds: float | None = None) -> bytes:
         """The bytes that came to a host; with a count or a time all that come until there are as many, or the time is over, 10
         seconds if only a count is given."""
         with Collecting(count, seconds) as it:
@@ -178,27 +192,29 @@ class User(Speaking):
 class AsyncUser(Speaking):
     """A user's connection for asyncio. Several tasks may share it: their calls take turns."""
 
-    def __init__(self, folder, name, noted, seconds):
+    def __init__(self, folder: str, name: str, noted: Noted | None, seconds: float) -> None:
         super().__init__(folder, name, noted, seconds)
         self.turn, self.has_ended = asyncio.Lock(), False
-        self.reader = self.writer = self.reading = None
+        self.reader: asyncio.StreamReader
+        self.writer: asyncio.StreamWriter
+        self.reading: asyncio.Task[None]
 
-    async def __aenter__(self):
+    async def __aenter__(self) -> AsyncUser:
         stream = await asyncio.to_thread(connected, self.folder, self.name)
         self.reader, self.writer = await asyncio.open_unix_connection(sock=stream)
         self.reading = asyncio.ensure_future(self.read())
         return self
 
-    async def __aexit__(self, *_):
+    async def __aexit__(self, *_: object) -> None:
         self.writer.close()
         await asyncio.wait({self.reading})
 
     @property
-    def notes(self):
+    def notes(self) -> list[Note]:
         """The notes that have come so far, the newest last."""
         return [*self.dialogue.notes]
 
-    async def read(self):
+    async def read(self) -> None:
         """Hears what comes until the connection ends."""
         try:
             while piece := await self.reader.read(PIECE):
@@ -208,16 +224,17 @@ class AsyncUser(Speaking):
         finally:
             self.has_ended = True
             for pending in [*self.dialogue.waiting.values()]:
-                pending.tell()
+                if pending.tell:
+                    pending.tell()
 
-    async def do(self, asked):
+    async def do(self, asked: Question) -> Any:
         async with self.turn:
-            answers = []
+            answers: list[list[str]] = []
             for piece in pieces(asked.lines):
                 answers += await self.exchange(piece, asked.strict)
         return asked.result(answers)
 
-    async def exchange(self, lines, strict):
+    async def exchange(self, lines: list[str], strict: bool) -> list[list[str]]:
         """Sends lines, and returns the answer to each."""
         waiting = [(self.dialogue.ask(line), asyncio.Event()) for line in lines]
         for pending, is_heard in waiting:
@@ -237,7 +254,7 @@ class AsyncUser(Speaking):
             for pending, _ in waiting:
                 self.dialogue.forget(pending)
 
-    async def await_answer(self, pending, is_heard):
+    async def await_answer(self, pending: Pending, is_heard: asyncio.Event) -> None:
         try:
             if not self.has_ended:
                 await asyncio.wait_for(is_heard.wait(), self.seconds)
@@ -246,11 +263,11 @@ class AsyncUser(Speaking):
         if not pending.is_whole:
             raise self.dialogue.ended()
 
-    async def load(self, host, program):
+    async def load(self, host: int, program: Program) -> Any:
         """Boots a program: the file of its text, an example's name, or bytes of code. A `Loaded`."""
         return await self.do(await asyncio.to_thread(loaded, host, program))
 
-    async def collect(self, host, count=None, seconds=None):
+    async def collect(self, host: int, count: int | None = None, seconds: float | None = None) -> bytes:
         """The bytes that came to a host; with a count or a time all that come until there are as many, or the time is over, 10
         seconds if only a count is given."""
         with Collecting(count, seconds) as it:

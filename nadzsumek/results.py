@@ -1,7 +1,12 @@
 """What the farm answers, as values of Python, and what it refuses."""
+
+from __future__ import annotations
+
 import dataclasses
 import enum
 import re
+from collections.abc import Callable
+from typing import Any
 
 from nadzsumek.serving.answers import bytes_taken, meaning, refusal, shortfall
 
@@ -36,7 +41,7 @@ class Look:
     state: State
     fault: int | None
     operation: int | None
-    overruns: tuple
+    overruns: tuple[int, ...]
 
 
 @dataclasses.dataclass(frozen=True)
@@ -44,9 +49,9 @@ class Why:
     """Why nodes wait, have halted or run on: after how many events of the domain, and one line of text after another."""
 
     events: int
-    lines: tuple
+    lines: tuple[str, ...]
 
-    def __str__(self):
+    def __str__(self) -> str:
         return "\n".join(self.lines)
 
 
@@ -68,13 +73,13 @@ class Note:
     room: int | None = None
 
 
-def note_of(text):
+def note_of(text: str) -> Note:
     """A note as it came: `note rests USED ROOM` of the user's machine, or `note: TEXT` of the farm."""
     rests = re.fullmatch(r"note rests (\d+) (\d+)", text)
     return Note(text, int(rests[1]), int(rests[2])) if rests else Note(text)
 
 
-def check(line, answer):
+def check(line: str, answer: str) -> None:
     """Raises what an answer refuses."""
     if answer.startswith(UNANSWERED):
         raise NotAnswered(line, answer.removeprefix(UNANSWERED))
@@ -91,7 +96,7 @@ def check(line, answer):
         )
 
 
-def look_of(words):
+def look_of(words: list[str]) -> Look:
     """A node of the words behind `look NODE`."""
     state, more = State(words[0]), words[1 : words.index("overruns")]
     return Look(
@@ -102,18 +107,18 @@ def look_of(words):
     )
 
 
-def why_of(answers):
+def why_of(answers: list[str]) -> Why:
     """The text of the lines of an answer to `why`."""
     first, *lines = [it.removeprefix("why ") for it in answers]
     return Why(int(first.split()[1]), tuple(lines[:-1]))
 
 
-def config_of(words):
+def config_of(words: list[str]) -> bytes:
     return bytes.fromhex("".join(it for it in words if it != "-"))
 
 
 # What the words behind a verb, or behind its host or node, say.
-OF_WORDS = {
+OF_WORDS: dict[str, Callable[[list[str]], object]] = {
     "config": lambda words: config_of(words[1:]),
     "write": lambda words: int(words[2]),
     "boot": lambda words: int(words[2]),
@@ -127,7 +132,7 @@ OF_WORDS = {
 }
 
 
-def result_of(answers):
+def result_of(answers: list[str]) -> Any:
     """The value of the lines of an answer that refuses nothing; none for verbs of which no value is known."""
     words = answers[0].split(" ")
     if words[0] == "why":
@@ -135,7 +140,7 @@ def result_of(answers):
     return OF_WORDS[words[0]](words) if words[0] in OF_WORDS else None
 
 
-def plain(value):
+def plain(value: Any) -> Any:
     """A value as JSON has it: bytes by hexadecimal digits."""
     if dataclasses.is_dataclass(value):
         return {name: plain(it) for name, it in vars(value).items()}

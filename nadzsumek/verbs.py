@@ -1,7 +1,12 @@
 """The verbs of a user. What a line is, and which words are right, is as at a terminal."""
+
+from __future__ import annotations
+
 import os
 import tempfile
 import time
+from collections.abc import Callable, Iterable
+from typing import Any, TypeAlias
 
 from nadzsumek.serving.orders import lines_of, loading
 from nadzsumek.serving.texts import quoted
@@ -17,14 +22,20 @@ COLLECT_SECONDS = 10
 FIRST_PAUSE, MOST_PAUSE = 0.005, 0.2
 
 
+# The file of a program's text, an example's name, or bytes of code.
+Program: TypeAlias = str | os.PathLike[str] | bytes | bytearray | memoryview
+
+
 class Question:
     """Lines that are asked one behind another, and what all their answers say. Of a strict one a refused line is raised."""
 
-    def __init__(self, lines, result=None, strict=True):
+    def __init__(
+        self, lines: list[str], result: Callable[[list[list[str]]], Any] | None = None, strict: bool = True
+    ) -> None:
         self.lines, self.result, self.strict = lines, result or (lambda answers: result_of(answers[-1])), strict
 
 
-def question(line):
+def question(line: str) -> Question:
     """A question of one line. A word that is no word of the verb's is refused as at a terminal."""
     try:
         return Question(lines_of("", line))
@@ -32,7 +43,7 @@ def question(line):
         raise ValueError(f"{wrong}") from None
 
 
-def load_question(host, program):
+def load_question(host: int, program: Program) -> Question:
     """The lines that load a program: the text in a file, an example's name, or bytes of code."""
     code = bytes(program) if isinstance(program, (bytes, bytearray, memoryview)) else None
     if code is not None and len(code) <= MOST_BOOT:
@@ -42,7 +53,7 @@ def load_question(host, program):
             text.writelines(f"byte {it}\n" for it in code)
             text.flush()
             lines = loading("user", f"{host:d}", text.name)
-    else:
+    elif not isinstance(program, (bytes, bytearray, memoryview)):
         lines = loading("user", f"{host:d}", os.fspath(program))
     if not lines:
         raise ValueError("there is no code")
@@ -50,7 +61,7 @@ def load_question(host, program):
     return Question(lines, lambda _: Loaded(len(boot) // 2, len(lines) - 1))
 
 
-def loaded(host, program):
+def loaded(host: int, program: Program) -> Question:
     """The same, and what is wrong with the program as a wrong value."""
     try:
         return load_question(host, program)
@@ -61,26 +72,26 @@ def loaded(host, program):
 class Collecting:
     """What a `collect` has taken so far, and how long it goes on."""
 
-    def __init__(self, count, seconds):
+    def __init__(self, count: int | None, seconds: float | None) -> None:
         self.held, self.count, self.pause = bytearray(), count, FIRST_PAUSE / 2
         limit = COLLECT_SECONDS if seconds is None else seconds
         self.end = time.monotonic() + limit if count is not None or seconds is not None else None
 
-    def is_over(self):
+    def is_over(self) -> bool:
         """Whether enough has come, or the time is over."""
         if self.end is None or (self.count is not None and len(self.held) >= self.count):
             return True
         return time.monotonic() >= self.end
 
-    def next_pause(self):
+    def next_pause(self) -> float:
         """How many seconds to wait before the next look."""
         self.pause = min(self.pause * 2, MOST_PAUSE)
-        return max(0, min(self.pause, self.end - time.monotonic()))
+        return max(0, min(self.pause, (self.end or 0) - time.monotonic()))
 
-    def __enter__(self):
+    def __enter__(self) -> Collecting:
         return self
 
-    def __exit__(self, _, error, __):
+    def __exit__(self, _: object, error: object, __: object) -> None:
         if isinstance(error, FarmError):
             error.collected = bytes(self.held)
 
@@ -89,60 +100,60 @@ class Verbs:
     """The verbs of a user. In `User` a call returns what is said here; in `AsyncUser` it is awaited. A word that isn't right for
     its verb is a ValueError, and nothing is sent. What the farm refuses is `Refused`."""
 
-    def do(self, asked):
+    def do(self, asked: Question) -> Any:
         """Asks a question."""
         raise NotImplementedError
 
-    def ask(self, line):
+    def ask(self, line: str) -> Any:
         """The lines of the answer to any line, also if it is refused."""
         if "\n" in line:
             raise ValueError("a line has no line feed")
         return self.do(Question([line], lambda answers: answers[0], strict=False))
 
-    def config(self, message):
+    def config(self, message: Iterable[int]) -> Any:
         """Sends configuration bytes, and returns those that the switch answered."""
         return self.do(question(f"config {bytes(message).hex()}"))
 
-    def join(self, one, other):
+    def join(self, one: int, other: int) -> Any:
         """Joins two ports both ways and makes them ready."""
         return self.do(Question(question(f"join {one:d} {other:d}").lines, lambda _: None))
 
-    def write(self, host, content):
+    def write(self, host: int, content: Iterable[int]) -> Any:
         """Gives a host bytes to send, and returns how many."""
         return self.do(question(f"write {host:d} {bytes(content).hex()}"))
 
-    def send(self, host, text):
+    def send(self, host: int, text: str) -> Any:
         """Gives a host the bytes of a text in UTF-8, and returns how many."""
         return self.do(question(f"send {host:d} {quoted(text)}"))
 
-    def boot(self, host, code):
+    def boot(self, host: int, code: Iterable[int]) -> Any:
         """Boots the node that is joined with the host with this code, and returns how many bytes the host took."""
         return self.do(question(f"boot {host:d} {bytes(code).hex()}"))
 
-    def poke(self, host, address, word):
+    def poke(self, host: int, address: int, word: int) -> Any:
         """Stores a word of 32 bits in a booting node, through the host."""
         return self.do(Question(question(f"poke {host:d} {address:08x} {word:08x}").lines, lambda _: None))
 
-    def peek(self, host, address):
+    def peek(self, host: int, address: int) -> Any:
         """A word of 32 bits of a booting node, read through the host; none if no word came."""
         return self.do(question(f"peek {host:d} {address:08x}"))
 
-    def reset(self, node):
+    def reset(self, node: int) -> Any:
         """Resets a node; its memory stays."""
         return self.do(question(f"reset {node:d}"))
 
-    def look(self, node):
+    def look(self, node: int) -> Any:
         """A node's `Look`."""
         return self.do(question(f"look {node:d}"))
 
-    def rest(self):
+    def rest(self) -> Any:
         """Whether something goes on in the user's machine, a `Rest`."""
         return self.do(question("rest"))
 
-    def why(self, node=None):
+    def why(self, node: int | None = None) -> Any:
         """Why each node waits, has halted or runs on, or this one: a `Why`."""
         return self.do(question("why" if node is None else f"why {node:d}"))
 
-    def restart(self):
+    def restart(self) -> Any:
         """Makes the user's machine as it was opened, if it is his alone."""
         return self.do(question("restart"))

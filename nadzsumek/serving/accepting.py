@@ -1,5 +1,10 @@
 """How the connections of a socket are let in."""
+
+from __future__ import annotations
+
 import asyncio
+import socket
+from collections.abc import Awaitable, Callable
 
 from .lines import PIECE
 from .pace import Pace
@@ -9,9 +14,11 @@ from .pace import Pace
 MOST_AT_ONCE, MOST_A_SECOND = 20, 20
 # How long is waited if the system has no descriptor or no memory for a connection.
 PAUSE = 1
+# What serves a connection.
+Serve = Callable[[asyncio.StreamReader, asyncio.StreamWriter], Awaitable[None]]
 
 
-async def accept(socket, serve, refused):
+async def accept(listening: socket.socket, serve: Serve, refused: Callable[[OSError], object]) -> None:
     """Lets the connections of a socket in, one after another, and serves each until it ends. `refused` is told why one can't
     be let in."""
     loop, serving = asyncio.get_running_loop(), set()
@@ -19,7 +26,7 @@ async def accept(socket, serve, refused):
     try:
         while True:
             try:
-                one, _ = await loop.sock_accept(socket)
+                one, _ = await loop.sock_accept(listening)
             except OSError as error:
                 refused(error)
                 await asyncio.sleep(PAUSE)
@@ -29,16 +36,16 @@ async def accept(socket, serve, refused):
             task.add_done_callback(serving.discard)
             await asyncio.sleep(pace.pause(1))
     finally:
-        socket.close()
+        listening.close()
         if serving:
             await asyncio.wait(serving, timeout=1)
 
 
-async def serve_one(socket, serve):
+async def serve_one(one: socket.socket, serve: Serve) -> None:
     """Serves one connection by its two streams."""
     try:
-        reader, writer = await asyncio.open_unix_connection(sock=socket, limit=PIECE)
+        reader, writer = await asyncio.open_unix_connection(sock=one, limit=PIECE)
     except OSError:
-        socket.close()
+        one.close()
         return
     await serve(reader, writer)

@@ -59,10 +59,10 @@ ANSWERING = {"join": "config", "send": "write", "text": "collect"}
 class Loading:
     """The pokes of one `load`: how many were sent, and how many of them the host didn't take whole."""
 
-    def __init__(self):
+    def __init__(self) -> None:
         self.pokes = self.missed = 0
 
-    def told(self, line, answer):
+    def told(self, line: str, answer: str) -> list[str]:
         """What is shown of the answer to a line: of pokes the first that went wrong alone."""
         if not line.startswith("poke "):
             missed = f"{self.missed} of {self.pokes} pokes went wrong, so the program isn't there as it should be"
@@ -77,10 +77,10 @@ class Loading:
 class Due:
     """A line that was sent, and whose answer hasn't come yet; `loading` if it is one of the many lines of a `load`."""
 
-    def __init__(self, line, loading=None):
+    def __init__(self, line: str, loading: Loading | None = None) -> None:
         self.line, self.loading = line, loading
 
-    def is_answered_by(self, answer):
+    def is_answered_by(self, answer: str) -> bool:
         """Whether this may be its answer: it has its verb, or that of the plain line in its place, and its host or node. Other
         clients of the user hear and are heard too."""
         if answer.startswith(LOST):
@@ -93,22 +93,22 @@ class Due:
             return False
         return asked[0] not in NUMBERED or told[1:2] == [asked[1].lstrip("0") or "0"]
 
-    def told(self, answer):
+    def told(self, answer: str) -> list[str]:
         """What is shown of its answer."""
         return self.loading.told(self.line, answer) if self.loading else with_meaning(self.line, answer)
 
 
-def bytes_of(text):
+def bytes_of(text: str) -> bytes:
     """The bytes of a line, as they are on the connection."""
     return text.encode("utf-8", "surrogateescape")
 
 
-def meaning(answer):
+def meaning(answer: str) -> str | None:
     """What an answer means, if that isn't plain."""
     return next((text for pattern, text in MEANINGS if re.fullmatch(pattern, answer)), None)
 
 
-def refusal(line, answer):
+def refusal(line: str, answer: str) -> str | None:
     """By which word a line was refused, also if it wasn't answered; none if it wasn't refused. What a node or a machine does is
     no refusal, and neither is that no byte has come."""
     if answer.startswith("error: "):
@@ -123,12 +123,12 @@ def refusal(line, answer):
     return found or ("hostfull" if shortfall(line, answer) else None)
 
 
-def bytes_taken(answer):
+def bytes_taken(answer: str) -> int:
     """How many bytes the host took, by the answer to a line that gives it some."""
     return int(answer.split()[2])
 
 
-def bytes_given(line):
+def bytes_given(line: str) -> int:
     """How many bytes a line gives a host, with those by which a message begins."""
     verb, _, content = line.removesuffix("\r").split(" ", 2)
     if verb == "send":
@@ -136,7 +136,7 @@ def bytes_given(line):
     return 9 if verb == "poke" else len(content) // 2 + (verb == "boot")
 
 
-def shortfall(line, answer):
+def shortfall(line: str, answer: str) -> str | None:
     """What it means that a host took fewer bytes than the line gives it; none if it took all."""
     told = answer.split()
     if line.split()[0] not in ("write", "send", "boot", "poke") or len(told) != 3 or not told[2].isdigit():
@@ -147,13 +147,13 @@ def shortfall(line, answer):
     return f"the host took {told[2]} of {whole} bytes, as its queue is full: is it joined with a node (join) that takes them?"
 
 
-def with_meaning(line, answer):
+def with_meaning(line: str | None, answer: str) -> list[str]:
     """An answer as it is shown: with the text of what was collected, and what it means below it."""
     text = meaning(answer) or (shortfall(line, answer) if line else None)
     return [with_text(answer), *([f"  ({text})"] if text else [])]
 
 
-def with_text(answer):
+def with_text(answer: str) -> str:
     """An answer, and behind the bytes that were collected their text, if that can be printed."""
     collected = re.fullmatch(r"collect \d+ ((?:[0-9a-f]{2})+)", answer)
     if not collected:

@@ -1,8 +1,13 @@
 """The lines of `connect -c`, and those of standard input with `--json`: only their own answers are printed, whoever else speaks as
 this user, and the status says whether one was refused."""
+
+from __future__ import annotations
+
+import argparse
 import json
 import os
 import sys
+from typing import TYPE_CHECKING
 
 from nadzsumek import Farm, NoFarm, NotAnswered
 from nadzsumek.results import plain, result_of
@@ -17,6 +22,10 @@ from .orders import lines_of, split, table_of
 from .ports import joins_told, wiring_of
 from .verbs import Wrong, help_lines
 
+if TYPE_CHECKING:
+    from nadzsumek.farm import User
+    from nadzsumek.results import Note
+
 # What divides the lines of a text of several.
 LINES = "\n"
 
@@ -24,16 +33,16 @@ LINES = "\n"
 class Asking:
     """A user's lines, whose answers are printed as at a terminal, or in JSON."""
 
-    def __init__(self, folder, user, is_json, is_checked):
+    def __init__(self, folder: str, user: User, is_json: bool, is_checked: bool) -> None:
         self.folder, self.user, self.is_json, self.is_checked, self.status = folder, user, is_json, is_checked, 0
         self.ports, self.wiring = user.ports, wiring_of(folder, user.name)
 
-    def show(self, texts, **fields):
+    def show(self, texts: list[str], **fields: object) -> None:
         """Prints lines of text, or in JSON an object with these fields."""
         for text in [json.dumps(fields)] if self.is_json else texts:
             print(escaped(text), flush=True)
 
-    def show_answer(self, line, asked, answers, loading):
+    def show_answer(self, line: str, asked: str, answers: list[str], loading: Loading | None) -> None:
         """Prints the answer to one of the lines that a line sends."""
         for at, answer in enumerate(answers):
             texts, word = loading.told(asked, answer) if loading else with_meaning(asked, answer), refusal(
@@ -47,7 +56,7 @@ class Asking:
                 self.show(texts, line=line, answer=answer, refused=word, **more)
             self.status = REFUSED if word else self.status
 
-    def show_fault(self, line, word, why):
+    def show_fault(self, line: str, word: str, why: str) -> None:
         """Says why a line has no answer."""
         self.status = REFUSED
         if self.is_json:
@@ -55,7 +64,7 @@ class Asking:
         else:
             print(f"error: {escaped(why, LINES)}", file=sys.stderr, flush=True)
 
-    def ask(self, line):
+    def ask(self, line: str) -> None:
         """Sends what a line asks for, and prints the answers."""
         sent = lines_of(self.user.name, line, self.ports)
         loading = Loading() if len(sent) > 1 else None
@@ -64,7 +73,7 @@ class Asking:
         for asked, answers in zip(sent, self.user.do(Question(sent + more, lambda it: it, strict=False))):
             self.show_answer(line, asked, answers, loading)
 
-    def do(self, line):
+    def do(self, line: str) -> bool:
         """Does one line; false if it is the last."""
         try:
             first, _, words = split(self.user.name, line, self.ports)
@@ -90,12 +99,13 @@ class Asking:
         return True
 
 
-def run(folder, name, words):
+def run(folder: str, name: str, words: argparse.Namespace) -> int:
     """Does the lines of the words as this user, or those of standard input if there are none; the status."""
-    asking = None
+    asking: Asking | None = None
 
-    def noted(note):
-        asking.show(with_meaning(None, note.text), note=note.text)
+    def noted(note: Note) -> None:
+        if asking:
+            asking.show(with_meaning(None, note.text), note=note.text)
 
     try:
         with Farm(folder).user(name, noted) as user:

@@ -1,4 +1,7 @@
 """A change of a class: its files, and the farms that are stopped and started for it. After a refusal all is as it was."""
+
+from __future__ import annotations
+
 import contextlib
 import fcntl
 import os
@@ -7,6 +10,8 @@ import shlex
 import shutil
 import signal
 import time
+from collections.abc import Iterator
+from typing import TYPE_CHECKING
 
 from .folder import CLASS, FOLDER_MODE, PLAN, Refused, account_name, build, is_locked, made
 from .holders import serve_of
@@ -17,6 +22,11 @@ from .sheets import count
 from .status import ask_operator
 from .supervising import Awaited, AwaitedChange, supervisor_of
 from .upkeep import INTERRUPTED, Start, Stop, all_done, say
+
+if TYPE_CHECKING:
+    from .kept import Kept
+    from .places import Part
+    from .plans import Machine
 
 # Which units of systemd run the farms of a class.
 UNIT = re.compile(r"class@.*\.service")
@@ -36,7 +46,7 @@ class StopForChange(Stop):
 
 
 @contextlib.contextmanager
-def hold(course, how):
+def hold(course: str, how: int) -> Iterator[None]:
     """Holds a class, for this process alone (LOCK_EX) or beside others that start and stop its farms (LOCK_SH)."""
     file = os.open(course, os.O_RDONLY | os.O_DIRECTORY)
     try:
@@ -49,7 +59,7 @@ def hold(course, how):
 
 
 @contextlib.contextmanager
-def changing(course):
+def changing(course: str) -> Iterator[Change]:
     """A change of a class that no other process changes, starts or stops meanwhile."""
     class_in(course)
     with hold(course, fcntl.LOCK_EX):
@@ -57,7 +67,7 @@ def changing(course):
 
 
 @contextlib.contextmanager
-def undisturbed():
+def undisturbed() -> Iterator[None]:
     """Passes over Ctrl-C and other signals that would end this, so that nothing is left half done."""
     before = {it: signal.signal(it, lambda *_: None) for it in (signal.SIGINT, signal.SIGTERM, signal.SIGHUP)}
     try:
@@ -67,7 +77,7 @@ def undisturbed():
             signal.signal(it, does)
 
 
-def unit_of(number):
+def unit_of(number: int) -> str | None:
     """The unit of systemd by which a farm of a class runs; none if it runs otherwise."""
     with contextlib.suppress(OSError):
         with open(f"/proc/{number}/cgroup", encoding="utf-8") as it:
@@ -75,13 +85,15 @@ def unit_of(number):
     return None
 
 
-def starting(kept, farm, course, users, supervised=Awaited):
+def starting(kept: Kept, farm: str, course: str, users: list[str], supervised: type[Start] = Awaited) -> Start:
     """The start of a farm: by the supervisor of its class, if there is one."""
-    kind = Start if supervisor_of(course) is None else supervised
-    return kind(farm, course, len(users), [*kept.rights, *kept.rooms.words()])
+    words = [*kept.rights, *kept.rooms.words()]
+    if supervisor_of(course) is None:
+        return Start(farm, course, len(users), words)
+    return supervised(farm, course, len(users), words)
 
 
-def rewritten(path, text):
+def rewritten(path: str, text: bytes | None) -> None:
     """Writes a file anew, with the mode that it had. None removes it."""
     if text is None:
         os.unlink(path)
@@ -93,7 +105,7 @@ def rewritten(path, text):
     os.replace(f"{path}.new", path)
 
 
-def contents(path):
+def contents(path: str) -> bytes | None:
     """What a file has; none if it isn't there."""
     try:
         with open(path, "rb") as it:
@@ -102,7 +114,7 @@ def contents(path):
         return None
 
 
-def copied(path, old, name, new):
+def copied(path: str, old: str, name: str, new: str) -> None:
     """Copies a record under a new path, with another name of its user in its plan."""
     with open(path, "rb") as here, open(os.open(new, os.O_WRONLY | os.O_CREAT | os.O_EXCL, OWN), "wb") as there:
         head, divider, rest = here.read(MOST_HEAD).partition(DIVIDER)
@@ -111,12 +123,12 @@ def copied(path, old, name, new):
         shutil.copyfileobj(here, there)
 
 
-def number_of(path, name):
+def number_of(path: str, name: str) -> int:
     """The number of a record among those of a user."""
     return int(os.path.basename(path).removesuffix(".replay")[len(name) + 1 :] or 1)
 
 
-def outs(farm):
+def outs(farm: str) -> set[str]:
     """The users whose records couldn't be taken."""
     try:
         answers = ask_operator(farm, "!users", ANSWER_SECONDS)
@@ -131,7 +143,7 @@ def outs(farm):
 class Change:
     """What is to become of a class. Until it is done nothing is written."""
 
-    def __init__(self, course):
+    def __init__(self, course: str) -> None:
         self.course, self.kept = os.path.abspath(course), class_in(course)
         owner = os.stat(os.path.join(self.course, CLASS)).st_uid
         if owner != os.geteuid():
@@ -140,18 +152,22 @@ class Change:
             )
         self.farms = {farm: [*names] for farm, names in self.kept.farms.items()}
         self.removed, self.earlier = dict(self.kept.removed), dict(self.kept.earlier)
-        self.parts, self.touched, self.files = {}, [], {}
+        self.parts: dict[str, list[Part]] = {}
+        self.touched: list[str] = []
+        self.files: dict[str, bytes | None] = {}
         # the records that begin, each with the one of which it is a copy under another name; and whose records begin
-        self.records, self.fresh = {}, []
-        self.before, self.made = {}, []
+        self.records: dict[str, tuple[str, str, str] | None] = {}
+        self.fresh: list[tuple[str, set[str], str]] = []
+        self.before: dict[str, bytes | None] = {}
+        self.made: list[str] = []
 
-    def of(self, farm):
+    def of(self, farm: str) -> list[Part]:
         """The parts of a farm's plan, as they are to be."""
         if farm not in self.parts:
             self.parts[farm] = parts_of(farm, self.kept.farms[farm]) if farm in self.kept.farms else []
         return self.parts[farm]
 
-    def machine(self):
+    def machine(self) -> Machine:
         """What each new student gets. An earlier version hasn't kept it."""
         if self.kept.machine is None:
             farm = next(iter(self.kept.farms), None)
@@ -160,11 +176,18 @@ class Change:
             return self.of(farm)[0].machine
         return self.kept.machine
 
-    def part(self, user):
-        """The part of a student."""
-        return next(it for it in self.of(self.kept.farm_of(user)) if it.name == user)
+    def farm_of(self, user: str) -> str:
+        """The folder of the farm of a student, who is there."""
+        farm = self.kept.farm_of(user)
+        if farm is None:
+            raise Refused(f"there is no student {user} in {self.course}")
+        return farm
 
-    def put(self, farm, part, at=None):
+    def part(self, user: str) -> Part:
+        """The part of a student."""
+        return next(it for it in self.of(self.farm_of(user)) if it.name == user)
+
+    def put(self, farm: str, part: Part, at: int | None = None) -> None:
         """Puts a student into a farm: behind all others, or where one was taken out."""
         self.of(farm).append(part)
         names = self.farms.setdefault(farm, [])
@@ -172,7 +195,7 @@ class Change:
         self.parts[farm].sort(key=lambda it: names.index(it.name))
         self.touch(farm)
 
-    def take(self, farm, user):
+    def take(self, farm: str, user: str) -> int:
         """Takes a student out of a farm, which is none of the class any more if nobody else is in it. Where he was."""
         self.parts[farm] = [it for it in self.of(farm) if it.name != user]
         at = self.farms[farm].index(user)
@@ -180,11 +203,11 @@ class Change:
         self.touch(farm)
         return at
 
-    def touch(self, farm):
+    def touch(self, farm: str) -> None:
         if farm not in self.touched:
             self.touched.append(farm)
 
-    def begin_anew(self, farm, user):
+    def begin_anew(self, farm: str, user: str) -> str:
         """Lets the next record of a student begin, if he has any: an empty one is a beginning."""
         paths = records_of(os.path.join(farm, "records"), user)
         if paths:
@@ -193,7 +216,7 @@ class Change:
             return path
         return os.path.join(farm, "records", f"{user}.replay")
 
-    def written(self):
+    def written(self) -> None:
         """Adds the plans and what is kept to the files."""
         for farm in self.touched:
             text = text_of(self.of(farm)).encode()
@@ -206,7 +229,7 @@ class Change:
         after = self.kept._replace(farms=self.farms, machine=self.machine(), removed=self.removed, earlier=self.earlier)
         self.files[os.path.join(self.course, CLASS)] = after.text().encode()
 
-    def apply(self):
+    def apply(self) -> None:
         """Writes all files. No farm that is touched is up."""
         self.fresh = [
             (farm, {*records_of(os.path.join(farm, "records"), it.name)}, it.name)
@@ -227,7 +250,7 @@ class Change:
             self.before[path] = contents(path)
             rewritten(path, text)
 
-    def undo(self):
+    def undo(self) -> None:
         """Makes all as it was."""
         for path, text in self.before.items():
             if text is not None or os.path.exists(path):
@@ -243,21 +266,22 @@ class Change:
         for folder in reversed(self.made):
             shutil.rmtree(folder, ignore_errors=True)
 
-    def settle(self):
+    def settle(self) -> None:
         """Removes the records that go on under another name."""
         for source in self.records.values():
             if source is not None:
                 os.unlink(source[0])
 
-    def start_of(self, farm, users, supervised=AwaitedChange):
+    def start_of(self, farm: str, users: list[str], supervised: type[Start] = AwaitedChange) -> Start:
         """The start of a farm: by the supervisor of the class, if it has one."""
         return starting(self.kept, farm, self.course, users, supervised)
 
-    def up(self):
+    def up(self) -> list[str]:
         """The farms that are up, if the class may stop and start those that it touches."""
         up = [farm for farm in self.kept.farms if is_locked(farm)]
         for farm in (it for it in up if it in self.touched and supervisor_of(self.course) is None):
-            unit = unit_of(serve_of(farm))
+            number = serve_of(farm)
+            unit = unit_of(number) if number is not None else None
             if unit:
                 raise Refused(
                     f"{os.path.basename(farm)} is run by the unit {unit}: systemctl stop {shlex.quote(unit)} first, "
@@ -265,7 +289,7 @@ class Change:
                 )
         return up
 
-    def carry_out(self):
+    def carry_out(self) -> int:
         """Does it: the farms that it touches are stopped, the files written, and if the class is up they are started. The
         status."""
         self.written()
@@ -279,7 +303,7 @@ class Change:
             try:
                 failed = all_done([StopForChange(farm, self.course) for farm in stopping])
                 if failed:
-                    raise Refused("\n".join(f"{it.name}: {it.outcome[1]}" for it in failed))
+                    raise Refused("\n".join(f"{it.name}: {it.told_at_last()}" for it in failed))
                 self.apply()
             except (OSError, Refused) as error:
                 self.go_back(stopping)
@@ -287,11 +311,11 @@ class Change:
         starts = [self.start_of(farm, self.farms[farm]) for farm in self.touched if up and farm in self.farms]
         return self.started(starts, stopping, before, begun)
 
-    def started(self, starts, stopping, before, begun):
+    def started(self, starts: list[Start], stopping: list[str], before: dict[str, set[str]], begun: float) -> int:
         """Starts farms, and says how long each was away. If one can't be started, or a record can't be taken any more, all is
         made as it was."""
         try:
-            wrong = [f"{it.name}: {it.outcome[1]}" for it in all_done(starts)]
+            wrong = [f"{it.name}: {it.told_at_last()}" for it in all_done(starts)]
             wrong += [
                 f"{it.name}: the record of {', '.join(sorted(more))} can't be taken, see {it.log}"
                 for it in starts
@@ -313,7 +337,7 @@ class Change:
             say(f"{it.name}: up, {count(it.users, 'user')}{away}")
         return 0
 
-    def go_back(self, stopping):
+    def go_back(self, stopping: list[str]) -> None:
         """Makes all as it was, and starts the farms that were up."""
         self.undo()
         all_done([self.start_of(farm, self.kept.farms[farm], Awaited) for farm in stopping])

@@ -1,4 +1,7 @@
 """What the students' programs do in an exercise: each test is a script that `lab run` does on one thread, in a farm of its own."""
+
+from __future__ import annotations
+
 import argparse
 import os
 import re
@@ -6,7 +9,7 @@ import shutil
 import subprocess
 import tempfile
 from concurrent.futures import ThreadPoolExecutor
-from typing import NamedTuple
+from typing import TYPE_CHECKING, Any, NamedTuple
 
 from nadzsumek.occam.asking import BOUNDED
 
@@ -16,8 +19,10 @@ from .exercises import LANGUAGES, MOST_STEPS, OWN_FOLDER, exercise_in, is_own
 from .folder import Refused, build, program
 from .kept import class_in
 from .marks import as_csv, as_page, as_table
-from .places import VERSION
-from .plans import user_name
+from .plans import VERSION, user_name
+
+if TYPE_CHECKING:
+    from .exercises import Exercise, Test
 
 # The user whose machine it is, and the file in which a test is.
 USER, SCRIPT = "student", "test.farm"
@@ -46,12 +51,12 @@ class Row(NamedTuple):
     user: str
     person: str
     program: str
-    outcomes: tuple
+    outcomes: tuple[Outcome, ...]
     points: int
     remark: str
 
 
-def lab(folder, *words, text=None):
+def lab(folder: str, *words: str, text: bytes | None = None) -> tuple[int | None, str, str]:
     """The status of the lab, what it prints and what it says; no status if it took too long."""
     try:
         # a student's text of occam is compiled within bounds
@@ -70,9 +75,10 @@ def lab(folder, *words, text=None):
     return done.returncode, done.stdout.decode(errors="replace"), done.stderr.decode(errors="replace").strip()
 
 
-def programs_in(folder, users):
+def programs_in(folder: str, users: list[str]) -> tuple[dict[str, list[str]], list[str]]:
     """The files or folders of each student in a folder, and those that are nobody's."""
-    found, others = {}, []
+    found: dict[str, list[str]] = {}
+    others: list[str] = []
     try:
         entries = sorted(os.listdir(folder))
     except OSError as error:
@@ -88,7 +94,7 @@ def programs_in(folder, users):
     return found, others
 
 
-def copied(source, target):
+def copied(source: str, target: str) -> None:
     """Copies a program, which must be a file of a usual size."""
     if not os.path.isfile(source):
         raise Refused(f"there is no file {os.path.basename(source)}")
@@ -98,7 +104,7 @@ def copied(source, target):
     shutil.copyfile(source, target)
 
 
-def in_folder(folder, name):
+def in_folder(folder: str, name: str) -> str:
     """The file of a program in a student's folder. If its name has no ending, it is in the language that the student chose."""
     if os.path.splitext(name)[1]:
         return os.path.join(folder, name)
@@ -110,7 +116,7 @@ def in_folder(folder, name):
     return os.path.join(folder, there[0])
 
 
-def gathered(exercise, paths, room):
+def gathered(exercise: Exercise, paths: list[str], room: str) -> dict[str, str]:
     """Copies the programs of an exercise and of a student into a folder; the names of those of the student, and of their files."""
     own = {}
     file = next((it for it in paths if not os.path.isdir(it)), None)
@@ -137,7 +143,7 @@ def gathered(exercise, paths, room):
     return own
 
 
-def check_programs(own, room):
+def check_programs(own: dict[str, str], room: str) -> None:
     """Refuses programs that can't be compiled or assembled."""
     for file in own.values():
         if file.endswith(OCCAM):
@@ -150,20 +156,20 @@ def check_programs(own, room):
             raise Refused(f"{where}{told.partition(LINE_END)[0] or 'it can not be assembled'}")
 
 
-def line_of(sent, own):
+def line_of(sent: str, own: dict[str, str]) -> str:
     """A line as it is done: a program of the student is loaded from its file."""
     load, _, name = sent.rpartition(" ")
     return f"{load} {own[name]}" if sent.startswith("load ") and name in own else sent
 
 
-def script_of(exercise, test, own):
+def script_of(exercise: Exercise, test: Test, own: dict[str, str]) -> str:
     """The plan and the lines of a test."""
     machine = exercise.machine
     plan = VERSION + machine.domain(USER, [[0, machine.ports() - 1]])
     return plan + "---\n" + "".join(f"{USER} {line_of(line.sent, own)}\n" for line in test.lines)
 
 
-def shown(content):
+def shown(content: bytes) -> str:
     """Bytes as they are shown: digits, and the text if it can be printed."""
     if not content:
         return "nothing"
@@ -172,7 +178,7 @@ def shown(content):
     return f"{content.hex()}{more}"
 
 
-def wrong_in(test, answers):
+def wrong_in(test: Test, answers: list[str]) -> str | None:
     """What is the first that a test expects otherwise; none if all came."""
     told = iter([it for it in answers if it.split(" ")[1:2] in (["collect"], ["look"])])
     for line in test.lines:
@@ -181,21 +187,21 @@ def wrong_in(test, answers):
         words = next(told, f"{USER} collect 0 -").split(" ")
         if line.kind == "bytes":
             came = b"" if words[3] == "-" or not re.fullmatch(r"([0-9a-f]{2})+", words[3]) else bytes.fromhex(words[3])
-            if came != line.wanted:
+            if isinstance(line.wanted, bytes) and came != line.wanted:
                 return f"line {line.number}: {shown(line.wanted)} is expected, and {shown(came)} came"
         else:
             state = " ".join(words[3 : words.index("overruns")]) if "overruns" in words else "gone"
             if state != line.wanted and not (line.wanted == "halted" and state.startswith("halted ")):
-                return f"line {line.number}: node {words[2]} is expected to be {line.wanted}, and is {state}"
+                return f"line {line.number}: node {words[2]} is expected to be {line.wanted!s}, and is {state}"
     return None
 
 
-def steps_in(record):
+def steps_in(record: str) -> int:
     """How many Steps a record has."""
     return sum(int(times or 1) for times in re.findall(r"^(?:(\d+) times )?0 step \d+ @farm\b", record, re.MULTILINE))
 
 
-def tried(exercise, test, room, own):
+def tried(exercise: Exercise, test: Test, room: str, own: dict[str, str]) -> Outcome:
     """What comes of a test of the programs in a folder, among which those of the student have these files."""
     with open(os.path.join(room, SCRIPT), "w", encoding="utf-8") as it:
         it.write(script_of(exercise, test, own))
@@ -214,7 +220,7 @@ def tried(exercise, test, room, own):
     return Outcome(OK, steps) if wrong is None else Outcome(WRONG, steps, wrong, why_of(record, room))
 
 
-def why_of(record, room):
+def why_of(record: str, room: str) -> str:
     """What each node waits for at the end of a record; nothing if that isn't known."""
     with open(os.path.join(room, "test.replay"), "w", encoding="utf-8") as it:
         it.write(record)
@@ -222,7 +228,7 @@ def why_of(record, room):
     return "\n".join(told.splitlines()[1 : MOST_WHY + 1]) if status == 0 else ""
 
 
-def row_of(exercise, user, person, paths):
+def row_of(exercise: Exercise, user: str, person: str, paths: list[str]) -> Row:
     """The row of a student."""
     none = tuple(Outcome(NONE) for _ in exercise.tests)
     if not paths:
@@ -240,28 +246,28 @@ def row_of(exercise, user, person, paths):
     return Row(user, person, name, outcomes, points, remark)
 
 
-def written(path, text):
+def written(path: str, text: str) -> None:
     """Writes a file, whole or not at all."""
     with open(f"{path}.new", "w", encoding="utf-8", errors="backslashreplace", newline="") as it:
         it.write(text)
     os.replace(f"{path}.new", path)
 
 
-def check(words):
+def check(words: list[str]) -> int:
     """Tries the programs of a class in an exercise."""
-    it = argparse.ArgumentParser(
+    parser = argparse.ArgumentParser(
         prog="class check",
         usage="class check [--csv FILE] [--html FILE] DIR EXERCISE PROGRAMS",
         description="Tries what the students of a class have written for an exercise, in farms of its " "own.",
     )
-    it.add_argument("--csv", metavar="FILE", help="writes the table into this file too, for a spreadsheet")
-    it.add_argument("--html", metavar="FILE", help="writes a page for a browser too, with what came and why")
-    it.add_argument("DIR", help="the folder of the class")
-    it.add_argument("EXERCISE", help="the file of the exercise, or a folder with a file exercise.txt")
-    it.add_argument(
+    parser.add_argument("--csv", metavar="FILE", help="writes the table into this file too, for a spreadsheet")
+    parser.add_argument("--html", metavar="FILE", help="writes a page for a browser too, with what came and why")
+    parser.add_argument("DIR", help="the folder of the class")
+    parser.add_argument("EXERCISE", help="the file of the exercise, or a folder with a file exercise.txt")
+    parser.add_argument(
         "PROGRAMS", help="the folder of the programs: NAME.occ or NAME.s for each student, or a folder NAME"
     )
-    it = it.parse_args(words)
+    it = parser.parse_args(words)
     kept, exercise = class_in(it.DIR), exercise_in(it.EXERCISE)
     users = [name for names in kept.farms.values() for name in names]
     found, others = programs_in(it.PROGRAMS, users)

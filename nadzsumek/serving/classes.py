@@ -1,16 +1,20 @@
 """A class: its folders and sheets, its farms, and what its students have done."""
+
+from __future__ import annotations
+
 import argparse
 import difflib
 import fcntl
 import os
 import shlex
 import sys
+from collections.abc import Callable
 from concurrent.futures import ThreadPoolExecutor
 
 from .changing import hold, starting
 from .checking import check
 from .coming import add, change_one, remove, rename
-from .escapes import escaped
+from .escapes import escaped, set_errors
 from .finishing import finish
 from .folder import CLASS, FOLDER_MODE, Refused, build, is_locked, made, mode_of, program, socket_path
 from .kept import Kept, Rooms, class_in, keep, save
@@ -30,14 +34,14 @@ MOST_ASKED = 32
 FOLDER_ALONE = "the folder of the class behind it, and nothing else"
 
 
-def say_rooms(folder, domains, rooms):
+def say_rooms(folder: str, domains: int, rooms: Rooms) -> None:
     """Says what the rooms may take together, if there isn't so much."""
     needed = Needed(domains, *rooms, folder)
     warnings = [*needed.warnings()]
     print("".join(f"{escaped(it)}\n" for it in ([f"note: {needed.told()}", *warnings] if warnings else [])), end="")
 
 
-def check_free(folder):
+def check_free(folder: str) -> None:
     """Refuses a folder that has a class."""
     if os.path.exists(os.path.join(folder, CLASS)):
         raise Refused(
@@ -46,7 +50,7 @@ def check_free(folder):
         )
 
 
-def make(words):
+def make(words: argparse.Namespace) -> int:
     """Writes the folders, plans and sheets of a class."""
     folder, machine = os.path.abspath(words.DIR), Machine(words.nodes, words.hosts, words.memory, words.limit)
     machine.check()
@@ -75,7 +79,7 @@ def make(words):
     return 0
 
 
-def start(folder):
+def start(folder: str) -> int:
     """Starts each farm that isn't served yet, and waits until it answers."""
     class_in(folder)
     build("class", "live", "lab")
@@ -84,16 +88,16 @@ def start(folder):
         return do_all([starting(kept, farm, folder, names) for farm, names in kept.farms.items()])
 
 
-def start_with(words):
+def start_with(words: list[str]) -> int:
     """Starts the farms with other rooms than they had, which are kept from then on."""
-    it = argparse.ArgumentParser(
+    parser = argparse.ArgumentParser(
         prog="class start",
         usage="class start [--room SIZE] [--record-room SIZE] DIR",
         description="Starts the farms of a class with other rooms, also from then on.",
     )
-    add_rooms(it, None, None)
-    it.add_argument("DIR", help="the folder of the class")
-    it = it.parse_args(words)
+    add_rooms(parser, None, None)
+    parser.add_argument("DIR", help="the folder of the class")
+    it = parser.parse_args(words)
     kept = class_in(it.DIR)
     rooms = Rooms(it.room or kept.rooms.room, it.record_room or kept.rooms.record_room)
     if rooms != kept.rooms:
@@ -108,7 +112,7 @@ def start_with(words):
     return start(it.DIR)
 
 
-def serve(*words):
+def serve(*words: str) -> int:
     """Becomes the `serve` of one farm, with what is kept of its class, or has those of all its farms as children, as a unit of
     systemd wants it."""
     *more, farm = words if words else ("",)
@@ -130,14 +134,14 @@ def serve(*words):
     os.execv(call[0], call)
 
 
-def stop(folder):
+def stop(folder: str) -> int:
     """Stops each farm. Its records stay, and it goes on from them when it is started again."""
     class_in(folder)
     with hold(folder, fcntl.LOCK_SH):
         return do_all([Stop(farm, folder) for farm in class_in(folder).farms])
 
 
-def status(folder):
+def status(folder: str) -> int:
     """Prints a row for each student, and below them how much memory each farm has that answers."""
     farms = class_in(folder).farms
     # a farm that doesn't answer delays no other's rows
@@ -149,7 +153,7 @@ def status(folder):
     return 0
 
 
-def check_record(folder, name, file):
+def check_record(folder: str, name: str, file: str) -> int:
     """Says whether a file is what the farm has recorded of a student."""
     how, lines = verify(folder, class_in(folder), name, file)
     print("\n".join(escaped(it) for it in lines))
@@ -157,7 +161,7 @@ def check_record(folder, name, file):
 
 
 # Each with what it wants behind it, and an example of that.
-ORDERS = {
+ORDERS: dict[str, tuple[Callable[..., int], str, str]] = {
     "start": (start, FOLDER_ALONE, "course"),
     "stop": (stop, FOLDER_ALONE, "course"),
     "status": (status, FOLDER_ALONE, "course"),
@@ -170,7 +174,7 @@ ORDERS = {
     ),
 }
 # Those that read their words by themselves.
-MORE_ORDERS = {
+MORE_ORDERS: dict[str, Callable[[list[str]], int]] = {
     "serve": lambda words: serve(*words),
     "add": add,
     "change": change_one,
@@ -204,8 +208,8 @@ a class that is there:
 """
 
 
-def words_of(given):
-    it = argparse.ArgumentParser(
+def words_of(given: list[str]) -> argparse.Namespace:
+    parser = argparse.ArgumentParser(
         prog="class",
         description="A farm for each student of a class.",
         epilog=ABOUT_ORDERS,
@@ -225,26 +229,28 @@ class --students NAMES.txt --nodes N [--hosts H] [--memory M] [--limit L] [--roo
        class check [--csv FILE] [--html FILE] DIR EXERCISE PROGRAMS
        class wall [--seconds N] [--once] DIR FILE""",
     )
-    add_version(it)
-    it.add_argument("--students", required=True, metavar="NAMES.txt", help="a file with one name a line")
-    it.add_argument("--nodes", type=int, required=True, metavar="N", help="how many nodes each student has, 1 to 8")
-    it.add_argument("--hosts", type=int, default=1, metavar="H", help="how many hosts, 1 to 4, default 1")
-    it.add_argument("--memory", type=int, default=4096, metavar="M", help="how many bytes each node has, default 4096")
-    it.add_argument(
+    add_version(parser)
+    parser.add_argument("--students", required=True, metavar="NAMES.txt", help="a file with one name a line")
+    parser.add_argument("--nodes", type=int, required=True, metavar="N", help="how many nodes each student has, 1 to 8")
+    parser.add_argument("--hosts", type=int, default=1, metavar="H", help="how many hosts, 1 to 4, default 1")
+    parser.add_argument(
+        "--memory", type=int, default=4096, metavar="M", help="how many bytes each node has, default 4096"
+    )
+    parser.add_argument(
         "--limit", type=int, default=LIMIT[-1], metavar="L", help=f"how many events are recorded, default {LIMIT[-1]}"
     )
-    add_rooms(it, ROOM, RECORD_ROOM)
-    it.add_argument(
+    add_rooms(parser, ROOM, RECORD_ROOM)
+    parser.add_argument(
         "--mode", type=mode_of, default=0o600, metavar="M", help="the mode of the students' sockets, default 600"
     )
-    it.add_argument(
+    parser.add_argument(
         "--group", metavar="G", help="the group of the students' sockets; %%u in it stands for the user's name"
     )
-    it.add_argument("DIR", help="the folder of the class")
-    return it.parse_args(given)
+    parser.add_argument("DIR", help="the folder of the class")
+    return parser.parse_args(given)
 
 
-def order(given):
+def order(given: list[str]) -> int:
     """Does what is asked of a class that is there."""
     first, *words = given
     if first in MORE_ORDERS:
@@ -265,20 +271,20 @@ def order(given):
     return does(*words)
 
 
-def example_of(name, folder="course"):
+def example_of(name: str, folder: str = "course") -> str:
     """An order as it may be typed, of this class."""
     return f"class {name} {ORDERS[name][2].replace('course', folder, 1)}"
 
 
-def done(given):
+def done(given: list[str]) -> int:
     """Does what these words ask for; the status."""
     if given and (given[0] in (*ORDERS, *MORE_ORDERS) or not any(it.startswith("-") for it in given)):
         return order(given)
     return make(words_of(given))
 
 
-def main(given):
-    sys.stdout.reconfigure(errors="backslashreplace")
+def main(given: list[str]) -> int:
+    set_errors(sys.stdout, "backslashreplace")
     try:
         try:
             return done(given)

@@ -1,32 +1,43 @@
 """Who comes and goes in a class that is there: students are added, removed, changed and renamed."""
+
+from __future__ import annotations
+
 import argparse
 import contextlib
 import os
 import re
+from collections.abc import Callable
+from typing import TYPE_CHECKING, TypeVar
 
 from .changing import changing
 from .escapes import escaped
 from .folder import Refused, group_number, mode_of, socket_path
 from .kept import student_in
-from .places import MOST_RANGES, VERSION, part_of, place_for
-from .plans import PORTS, check_person, checked_name, people_in, refuse_all, students_among
+from .places import MOST_RANGES, part_of, place_for
+from .plans import PORTS, VERSION, check_person, checked_name, people_in, refuse_all, students_among
 from .records import records_of
 from .sheets import count, sheet, sheet_path, ways_of
 from .supervising import supervisor_of
 
+if TYPE_CHECKING:
+    from .changing import Change
+    from .places import Part
+    from .plans import Machine
+
+Answer = TypeVar("Answer")
 # The folder of a class in which the plans of those are who were removed.
 REMOVED = "removed"
 
 
-def plan_of_removed(course, user):
+def plan_of_removed(course: str, user: str) -> str:
     return os.path.join(course, REMOVED, f"{user}.toml")
 
 
-def say_all(lines):
+def say_all(lines: list[str]) -> None:
     print("".join(f"{escaped(it)}\n" for it in lines), end="", flush=True)
 
 
-def write_sheet(change, person, part, farm):
+def write_sheet(change: Change, person: str, part: Part, farm: str) -> str:
     """Lets the sheet of a student be written; its path."""
     rights = argparse.ArgumentParser(add_help=False)
     rights.add_argument("--mode", type=mode_of, default=0o600)
@@ -36,7 +47,7 @@ def write_sheet(change, person, part, farm):
     return path
 
 
-def may_give(process, group):
+def may_give(process: int, group: int) -> bool:
     """Whether a process may give a socket to a group: it is root's, or is in the group since it began."""
     with contextlib.suppress(OSError):
         with open(f"/proc/{process}/status", encoding="utf-8") as it:
@@ -45,7 +56,7 @@ def may_give(process, group):
     return True
 
 
-def check_group(change, user):
+def check_group(change: Change, user: str) -> None:
     """Refuses a user whose group isn't there, or to which his socket couldn't be given."""
     rights = change.kept.rights
     if "--group" not in rights:
@@ -64,7 +75,7 @@ def check_group(change, user):
         )
 
 
-def person_of(course, user):
+def person_of(course: str, user: str) -> str:
     """Who a student is, by his sheet."""
     with contextlib.suppress(OSError, UnicodeDecodeError):
         with open(sheet_path(course, user), encoding="utf-8") as it:
@@ -72,18 +83,18 @@ def person_of(course, user):
     return user
 
 
-def shape(machine):
+def shape(machine: Machine) -> str:
     return f"{count(machine.nodes, 'node')} and {count(machine.hosts, 'host')}"
 
 
-def next_farm(change):
+def next_farm(change: Change) -> str:
     """The folder of one more farm."""
     there = {os.path.basename(it) for it in [*change.farms, *change.removed.values()]} | {*os.listdir(change.course)}
     numbers = [int(it[1]) for name in there if (it := re.fullmatch(r"farm-(\d+)", name))]
     return os.path.join(change.course, f"farm-{max(numbers, default=0) + 1}")
 
 
-def come_back(change, user):
+def come_back(change: Change, user: str) -> tuple[str, Part]:
     """Puts a student who was removed back into his place, with what he had."""
     farm = change.removed[user]
     with open(plan_of_removed(change.course, user), encoding="utf-8") as it:
@@ -100,7 +111,7 @@ def come_back(change, user):
     return farm, part
 
 
-def find_place(change, user, machine):
+def find_place(change: Change, user: str, machine: Machine) -> tuple[str, Part]:
     """Puts a new student into the first farm that has a place for him, or else into one more farm."""
     count_of_ports = machine.ports()
     for farm in [*change.farms, None]:
@@ -114,7 +125,7 @@ def find_place(change, user, machine):
     raise AssertionError
 
 
-def check_new(change, person, user):
+def check_new(change: Change, person: str, user: str) -> None:
     """Refuses a student who can't come."""
     if change.kept.farm_of(user):
         raise Refused(f"{person} is the user {user}, who is there already: add something to the name")
@@ -123,7 +134,7 @@ def check_new(change, person, user):
     check_group(change, user)
 
 
-def all_of(wrong, does, *given):
+def all_of(wrong: list[str], does: Callable[..., Answer], *given: object) -> Answer | None:
     """What a call answers; none if it refuses, which is put to all that is wrong."""
     try:
         return does(*given)
@@ -132,7 +143,7 @@ def all_of(wrong, does, *given):
         return None
 
 
-def add(words):
+def add(words: list[str]) -> int:
     """Adds students."""
     it = argparse.ArgumentParser(
         prog="class add",
@@ -142,14 +153,15 @@ def add(words):
     it.add_argument("--students", metavar="NAMES.txt", help="a file with one name a line")
     it.add_argument("DIR", help="the folder of the class")
     it.add_argument("NAME", nargs="*", help="a student's name")
-    it = it.parse_args(words)
-    people = [("", name) for name in it.NAME] + (people_in(it.students) if it.students else [])
+    given = it.parse_args(words)
+    people = [("", name) for name in given.NAME] + (people_in(given.students) if given.students else [])
     if not people:
         raise Refused("add wants the folder of the class and a name. Try: class add course 'Ada Lovelace'")
-    with changing(it.DIR) as change:
-        machine, backs = change.machine(), {}
+    with changing(given.DIR) as change:
+        machine = change.machine()
+        backs: dict[str, tuple[str, Part]] = {}
 
-        def check(user, person):
+        def check(user: str, person: str) -> None:
             check_new(change, person, user)
             if user in change.removed:
                 backs[user] = come_back(change, user)
@@ -161,21 +173,22 @@ def add(words):
             how = "is back in" if user in backs else "is in"
             path = write_sheet(change, students[user], part, farm)
             told.append(
-                f"{user} {how} {os.path.basename(farm)} with {shape(part.machine)}; the sheet is {shown(it.DIR, path)}"
+                f"{user} {how} {os.path.basename(farm)} with {shape(part.machine)}; the sheet is {shown(given.DIR, path)}"
             )
         status = change.carry_out()
         say_all(told)
     return status
 
 
-def shown(course, path):
+def shown(course: str, path: str) -> str:
     """A path below the folder of a class, as that was given."""
     return os.path.join(course, os.path.relpath(path, os.path.abspath(course)))
 
 
-def found_all(change, course, names):
+def found_all(change: Change, course: str, names: list[str] | tuple[str, ...]) -> list[str]:
     """The users of these students. All that are no students are refused at once."""
-    wrong, users = [], []
+    wrong: list[str] = []
+    users: list[str] = []
     for name in names:
         found = all_of(wrong, student_in, change.kept.farms, name, course)
         if found and found[1] in users:
@@ -185,12 +198,12 @@ def found_all(change, course, names):
     return users
 
 
-def remove(course, *names):
+def remove(course: str, *names: str) -> int:
     """Removes students. What they did stays until the class is finished."""
     with changing(course) as change:
         told = []
         for user in found_all(change, course, names):
-            farm, part = change.kept.farm_of(user), change.part(user)
+            farm, part = change.farm_of(user), change.part(user)
             change.files[plan_of_removed(change.course, user)] = f"{VERSION}\n{part.text}\n".encode()
             change.take(farm, user)
             change.removed[user] = farm
@@ -202,7 +215,7 @@ def remove(course, *names):
     return status
 
 
-def change_one(words):
+def change_one(words: list[str]) -> int:
     """Gives a student another machine."""
     it = argparse.ArgumentParser(
         prog="class change",
@@ -213,12 +226,12 @@ def change_one(words):
     it.add_argument("NAME", help="the student's name")
     it.add_argument("--nodes", type=int, required=True, metavar="N", help="how many nodes, 1 to 8")
     it.add_argument("--hosts", type=int, metavar="H", help="how many hosts, 1 to 4, as before unless given")
-    it = it.parse_args(words)
-    with changing(it.DIR) as change:
-        (user,) = found_all(change, it.DIR, [it.NAME])
-        farm, before = change.kept.farm_of(user), change.part(user)
+    given = it.parse_args(words)
+    with changing(given.DIR) as change:
+        (user,) = found_all(change, given.DIR, [given.NAME])
+        farm, before = change.farm_of(user), change.part(user)
         machine = before.machine._replace(
-            nodes=it.nodes, hosts=it.hosts if it.hosts is not None else before.machine.hosts
+            nodes=given.nodes, hosts=given.hosts if given.hosts is not None else before.machine.hosts
         )
         machine.check()
         if machine == before.machine:
@@ -240,13 +253,13 @@ def change_one(words):
         say_all(
             [
                 f"{user} has {shape(machine)} now, and begins anew with {os.path.basename(record)}; the sheet is "
-                f"{shown(it.DIR, path)}"
+                f"{shown(given.DIR, path)}"
             ]
         )
     return status
 
 
-def check_renamed(change, farm, person):
+def check_renamed(change: Change, farm: str, person: str) -> tuple[str, list[str]]:
     """The user of a new name, if it may be given."""
     check_person(person)
     user, left = checked_name(person.strip(), {})
@@ -259,14 +272,15 @@ def check_renamed(change, farm, person):
     return user, left
 
 
-def rename(course, old, person):
+def rename(course: str, old: str, person: str) -> int:
     """Gives a student another name. The records go with him."""
     with changing(course) as change:
-        wrong = []
+        wrong: list[str] = []
         found = all_of(wrong, student_in, change.kept.farms, old, course)
         farm = found[0] if found else next(iter(change.kept.farms), change.course)
         renamed = all_of(wrong, check_renamed, change, farm, person)
         refuse_all(wrong)
+        assert found and renamed, "what is wrong is refused above"
         (farm, before), (user, left) = found, renamed
         part = change.part(before)
         part = part_of(re.sub(rf'(\bname\s*=\s*)"{before}"', rf'\1"{user}"', part.text, count=1))

@@ -7,7 +7,7 @@ from .folder import OPERATOR, users_of
 from .orders import examples, table_of
 
 
-def files(text):
+def files(text: str) -> list[str]:
     """The files whose path begins so, folders with a slash behind them; and the examples, if no folder is named."""
     folder, start = os.path.split(text)
     place = os.path.expanduser(folder) or "."
@@ -19,7 +19,7 @@ def files(text):
     return sorted({os.path.join(folder, it) for it in there if start or not it.startswith(".")})
 
 
-def candidates(folder, name, line):
+def candidates(folder: str, name: str, line: str) -> list[str]:
     """How the last word of a line can go on."""
     table, (*words, text) = table_of(name), line.split(" ") if line.strip() else [""]
     words = [it for it in words if it]
@@ -36,10 +36,10 @@ def candidates(folder, name, line):
     return []
 
 
-def complete_with(folder, name):
+def complete_with(folder: str, name: str) -> None:
     """Lets Tab complete the lines of this user."""
 
-    def complete(_, number):
+    def complete(_: str, number: int) -> str | None:
         try:
             return [*candidates(folder, name, readline.get_line_buffer()[: readline.get_endidx()]), None][number]
         except OSError:

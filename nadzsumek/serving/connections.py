@@ -1,4 +1,7 @@
 """How a socket of a farm is opened by those who use it."""
+
+from __future__ import annotations
+
 import os
 import socket
 
@@ -8,7 +11,7 @@ from .folder import Refused, no_right, no_socket, socket_path
 REFUSED, NO_FARM = 1, 3
 
 
-def opened(folder, name):
+def opened(folder: str, name: str) -> socket.socket:
     """A connection with the socket of this name."""
     stream = socket.socket(socket.AF_UNIX, socket.SOCK_STREAM)
     try:

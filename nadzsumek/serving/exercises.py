@@ -1,8 +1,11 @@
 """An exercise: what a teacher writes of it, in one text. docs/guides/CLASS.md has the form."""
+
+from __future__ import annotations
+
 import difflib
 import os
 import re
-from typing import NamedTuple
+from typing import Any, NamedTuple
 
 from .folder import Refused
 from .plans import LIMIT, Machine
@@ -37,7 +40,7 @@ VALUES = 'values are "text", byte 1 2, word 1 -2 or hex 0a0b'
 PIECE = re.compile(r'"(?:[^"\\]|\\.)*"|\S+')
 
 
-def is_own(name):
+def is_own(name: str) -> bool:
     """Whether a program is the student's."""
     return (
         name.startswith(OWN_FOLDER)
@@ -53,14 +56,14 @@ class Line(NamedTuple):
     number: int
     sent: str
     kind: str = ""
-    wanted: object = None
+    wanted: bytes | str = b""
 
 
 class Test(NamedTuple):
     """A test: its name, the lines that are done, how many Steps they may take, and how many points it gives."""
 
     name: str
-    lines: tuple
+    lines: tuple[Line, ...]
     steps: int
     points: int
 
@@ -71,14 +74,14 @@ class Exercise(NamedTuple):
     title: str
     folder: str
     machine: Machine
-    tests: tuple
+    tests: tuple[Test, ...]
 
-    def files(self):
+    def files(self) -> list[str]:
         """The programs that its lines load."""
         loads = (it.sent.split(None, 2)[2] for test in self.tests for it in test.lines if it.sent.startswith("load "))
         return [*dict.fromkeys(loads)]
 
-    def points(self):
+    def points(self) -> int:
         return sum(it.points for it in self.tests)
 
 
@@ -86,7 +89,7 @@ class Unfit(Exception):
     """What is wrong with a line."""
 
 
-def number_in(word, among, what):
+def number_in(word: str, among: range, what: str) -> int:
     """A number: decimal digits, or hexadecimal ones behind #."""
     if not re.fullmatch(r"-?[0-9]{1,20}|#[0-9a-fA-F]{1,8}", word):
         raise Unfit(f"{word!r} is no number where {what} is wanted")
@@ -96,7 +99,7 @@ def number_in(word, among, what):
     return number
 
 
-def bytes_of(pieces):
+def bytes_of(pieces: list[str]) -> bytes:
     """The bytes that values are."""
     made, at = b"", 0
     while at < len(pieces):
@@ -130,9 +133,13 @@ def bytes_of(pieces):
 class Reader:
     """Reads the text of an exercise. All wrong lines are found, and refused together."""
 
-    def __init__(self, path, text):
-        self.path, self.wrong, self.number = path, [], 0
-        self.head, self.before, self.tests, self.part = {}, [], [], self.in_head
+    def __init__(self, path: str, text: str) -> None:
+        self.path, self.number = path, 0
+        self.wrong: list[str] = []
+        self.head: dict[str, Any] = {}
+        self.before: list[Line] = []
+        self.tests: list[dict[str, Any]] = []
+        self.part = self.in_head
         self.steps = STEPS
         for number, raw in enumerate(text.split("\n"), 1):
             line = raw.removesuffix("\r").strip()
@@ -143,7 +150,7 @@ class Reader:
                 except Unfit as unfit:
                     self.wrong.append(f"{path}, line {number}: {unfit}")
 
-    def read(self, first, rest=""):
+    def read(self, first: str, rest: str = "") -> None:
         if first not in WORDS:
             near = difflib.get_close_matches(first.lower(), WORDS, 1, 0.6)
             raise Unfit(
@@ -164,7 +171,7 @@ class Reader:
         else:
             self.part(first, rest)
 
-    def in_head(self, first, rest):
+    def in_head(self, first: str, rest: str) -> None:
         """A line above the tests."""
         if first in DONE or first in OF_TEST:
             raise Unfit(f"{first} belongs below a line test or before")
@@ -179,13 +186,13 @@ class Reader:
         else:
             self.head[first] = number_in(rest, range(1, 1 << 20), first)
 
-    def in_before(self, first, rest):
+    def in_before(self, first: str, rest: str) -> None:
         """A line that each test begins with."""
         if first not in DONE:
             raise Unfit(f"{first} belongs to the head of the exercise, or to a test")
         self.before.append(self.done(first, rest))
 
-    def in_test(self, first, rest):
+    def in_test(self, first: str, rest: str) -> None:
         """A line of a test."""
         test = self.tests[-1]
         if first == "steps":
@@ -197,7 +204,7 @@ class Reader:
         else:
             test["lines"].append(self.done(first, rest))
 
-    def done(self, first, rest):
+    def done(self, first: str, rest: str) -> Line:
         """A line that is done in the machine."""
         words = PIECE.findall(rest)
         least = len(DONE[first].split()) - 1
@@ -225,7 +232,7 @@ class Reader:
             return Line(self.number, f"look {numbers[0]}", "state", " ".join(words[1:]))
         return Line(self.number, f"{first} {numbers[0]}")
 
-    def file(self, name):
+    def file(self, name: str) -> str:
         """The name of a program. It must be the student's, or there beside the exercise."""
         if os.path.isabs(name) or ".." in name.split("/") or "/" in name.removeprefix(OWN_FOLDER):
             raise Unfit(f"{name} is in another folder: programs are beside the exercise, or {OWN} or {OWN_FOLDER}NAME")
@@ -233,7 +240,7 @@ class Reader:
             raise Unfit(f"there is no file {name} beside the exercise. The student's program is {OWN}")
         return name
 
-    def exercise(self):
+    def exercise(self) -> Exercise:
         """The exercise."""
         machine = Machine(
             self.head.get("nodes", 1), self.head.get("hosts", 1), self.head.get("memory", 4096), LIMIT[-1]
@@ -256,7 +263,7 @@ class Reader:
         title = self.head.get("exercise") or os.path.splitext(os.path.basename(self.path))[0]
         return Exercise(title, os.path.dirname(self.path), machine, tests)
 
-    def check_numbers(self, machine):
+    def check_numbers(self, machine: Machine) -> None:
         """Refuses ports, hosts and nodes that the machine hasn't got."""
         most = {
             "join": ("port", machine.ports()),
@@ -277,7 +284,7 @@ class Reader:
                     )
 
 
-def exercise_in(place):
+def exercise_in(place: str) -> Exercise:
     """The exercise in a file, or in a folder."""
     path = os.path.abspath(os.path.join(place, FILE) if os.path.isdir(place) else place)
     try:

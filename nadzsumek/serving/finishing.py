@@ -1,10 +1,15 @@
 """The end of a class: all that its students did in one archive."""
+
+from __future__ import annotations
+
 import argparse
 import contextlib
 import os
 import shutil
 import signal
 import tarfile
+from collections.abc import Iterator
+from typing import IO, TYPE_CHECKING
 
 from .changing import changing
 from .coming import REMOVED
@@ -15,20 +20,23 @@ from .sheets import count
 from .supervising import tell
 from .upkeep import Stop, all_done
 
+if TYPE_CHECKING:
+    from .changing import Change
+
 ENDING, OWN = ".tar.xz", 0o600
 
 
-def entries_of(folder):
+def entries_of(folder: str) -> list[str]:
     return sorted(os.listdir(folder)) if os.path.isdir(folder) else []
 
 
-def users_of(change):
+def users_of(change: Change) -> list[tuple[str, str]]:
     """Each student with the folder of the farm where the records are: those who are there, and those who were removed."""
     users = [(name, farm) for farm, names in change.kept.farms.items() for name in names]
     return users + [*change.kept.removed.items()]
 
 
-def paths_of(change):
+def paths_of(change: Change) -> Iterator[str]:
     """What the archive has, folders before what is in them."""
     users, course = users_of(change), change.course
     yield course
@@ -46,16 +54,19 @@ def paths_of(change):
             yield from (path for name, place in users if place == farm for path in records_of(records, name))
 
 
-def plain(it):
+def plain(it: tarfile.TarInfo) -> tarfile.TarInfo:
     """An entry of the archive without the account of the farm: whoever opens it has it."""
     it.uid = it.gid = 0
     it.uname = it.gname = ""
     return it
 
 
-def is_same(archive, path, name):
+def is_same(archive: tarfile.TarFile, path: str, name: str) -> bool:
     """Whether a file is in an archive as it is."""
-    with open(path, "rb") as here, archive.extractfile(name) as there:
+    there = archive.extractfile(name)
+    if there is None:
+        return False
+    with open(path, "rb") as here, there:
         while True:
             piece = here.read(PIECE)
             if piece != there.read(PIECE):
@@ -64,7 +75,7 @@ def is_same(archive, path, name):
                 return True
 
 
-def write(change, file):
+def write(change: Change, file: IO[bytes]) -> None:
     """Writes the archive, and reads it again."""
     top = os.path.dirname(change.course)
     names = {path: os.path.relpath(path, top) for path in paths_of(change)}
@@ -79,7 +90,7 @@ def write(change, file):
     os.fsync(file.fileno())
 
 
-def check_place(change, path):
+def check_place(change: Change, path: str) -> None:
     """Refuses a place where no archive can be, before a farm is stopped."""
     folder = os.path.dirname(path)
     if not path.endswith(ENDING):
@@ -92,27 +103,29 @@ def check_place(change, path):
         raise Refused(f"the archive {path} would be in the folder of the class: choose another folder")
 
 
-def stop_all(change):
+def stop_all(change: Change) -> list[str]:
     """Stops all farms, and says which were up. If one can't be stopped, those are started again."""
     up = [farm for farm in change.kept.farms if is_locked(farm)]
     failed = all_done([Stop(farm, change.course) for farm in up])
     if failed:
         change.go_back([farm for farm in up if not is_locked(farm)])
-        raise Refused("\n".join([*(f"{it.name}: {it.outcome[1]}" for it in failed), "all is as it was"]))
+        raise Refused("\n".join([*(f"{it.name}: {it.told_at_last()}" for it in failed), "all is as it was"]))
     return up
 
 
-def finish(words):
+def finish(words: list[str]) -> int:
     """Stops a class, and puts all that its students did into one archive."""
-    it = argparse.ArgumentParser(
+    parser = argparse.ArgumentParser(
         prog="class finish",
         usage="class finish [--remove] DIR [ARCHIVE]",
         description="Stops a class, and puts all that its students did into one archive.",
     )
-    it.add_argument("--remove", action="store_true", help="removes the folder of the class when the archive is whole")
-    it.add_argument("DIR", help="the folder of the class")
-    it.add_argument("ARCHIVE", nargs="?", help=f"the archive, DIR{ENDING} unless given")
-    it = it.parse_args(words)
+    parser.add_argument(
+        "--remove", action="store_true", help="removes the folder of the class when the archive is whole"
+    )
+    parser.add_argument("DIR", help="the folder of the class")
+    parser.add_argument("ARCHIVE", nargs="?", help=f"the archive, DIR{ENDING} unless given")
+    it = parser.parse_args(words)
     with changing(it.DIR) as change:
         path = os.path.abspath(it.ARCHIVE or f"{change.course}{ENDING}")
         check_place(change, path)

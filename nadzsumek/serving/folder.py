@@ -1,4 +1,7 @@
 """The folder of a farm that is served: its lock, its records and its sockets."""
+
+from __future__ import annotations
+
 import argparse
 import contextlib
 import fcntl
@@ -12,6 +15,8 @@ import stat
 import struct
 import subprocess
 import time
+from typing import Any
+
 import tomllib
 
 TOP = os.path.dirname(os.path.dirname(os.path.dirname(os.path.abspath(__file__))))
@@ -42,42 +47,43 @@ class Refused(Exception):
     """What can't be done, and what to do about it."""
 
 
-def program(name):
+def program(name: str) -> str:
     """The path of a program: that of the variable with its name in capitals (LIVE), or else the command at the top. The lab is run
     by its command in any case, which starts the program at LAB, if that is set, with the front end of occam beside it.
     """
     return os.path.abspath((given_path(name) if name != "lab" else None) or os.path.join(TOP, name))
 
 
-def given_path(name):
+def given_path(name: str) -> str | None:
     """The program that a variable names; none if what isn't proved is to be refused."""
     return None if os.environ.get("NADZSUMEK_PROVED") else os.environ.get(name.upper())
 
 
-def start_says(*words, **how):
+def start_says(*words: str, stderr: int | None = None) -> bool:
     """Whether tools/start has status 0."""
     call = [os.path.join(TOP, "tools", "start"), *words]
-    return subprocess.run(call, stdin=subprocess.DEVNULL, stdout=subprocess.DEVNULL, check=False, **how).returncode == 0
+    null = subprocess.DEVNULL
+    return subprocess.run(call, stdin=null, stdout=null, stderr=stderr, check=False).returncode == 0
 
 
-def is_proved(name):
+def is_proved(name: str) -> bool:
     """Whether a program is known to be proved, or a variable names one, which is taken as it is."""
     return bool(given_path(name)) or start_says("--is-built", name, stderr=subprocess.DEVNULL)
 
 
-def is_built(name):
+def is_built(name: str) -> bool:
     """Whether a program can be run at once."""
     return is_proved(name) or start_says("--is-ready", name)
 
 
-def build(command, *names):
+def build(command: str, *names: str) -> None:
     """Sees that a command can run these programs. Those that aren't proved are built without a proof, and that is said."""
     left = [it for it in names if not is_proved(it)]
     if left and not start_says("--ready", command, *left):
         raise Refused(f"{' and '.join(left)} can't be run: see above")
 
 
-def socket_path(folder, name):
+def socket_path(folder: str, name: str) -> str:
     """The path of a user's socket, or of the operator's."""
     path = os.path.join(folder, f"{name}.sock")
     if len(os.fsencode(path)) > MOST_PATH:
@@ -85,12 +91,12 @@ def socket_path(folder, name):
     return path
 
 
-def users_of(folder):
+def users_of(folder: str) -> list[str]:
     """The users who have sockets in a folder, sorted, without the operator."""
     return sorted({it[:-5] for it in os.listdir(folder) if it.endswith(".sock")} - {OPERATOR})
 
 
-def no_socket(folder, name):
+def no_socket(folder: str, name: str) -> str:
     """Why there is no socket of this name, and what to do."""
     if not os.path.isdir(folder):
         return f"there is no folder {folder}: give the folder of the farm, as serve PLAN DIR has it"
@@ -109,7 +115,7 @@ def no_socket(folder, name):
     return f"no farm is up in {folder}: {how}"
 
 
-def no_right(folder, name):
+def no_right(folder: str, name: str) -> str:
     """Why this account can't open the socket of this name, and what to do."""
     me, told = account_name(os.geteuid()), "ask the operator (serve --mode, --group)"
     try:
@@ -125,14 +131,14 @@ def no_right(folder, name):
     return f"{whose}: the socket is for {owner} and the group {group.gr_name}. If it is yours, {told}"
 
 
-def account_name(number):
+def account_name(number: int) -> str:
     try:
         return pwd.getpwuid(number).pw_name
     except KeyError:
         return str(number)
 
 
-def group_name(number):
+def group_name(number: int) -> grp.struct_group:
     """A group with its members, also if it has no name."""
     try:
         return grp.getgrgid(number)
@@ -140,7 +146,7 @@ def group_name(number):
         return grp.struct_group((str(number), "", number, []))
 
 
-def holder(folder):
+def holder(folder: str) -> int | None:
     """The number of the process that serves the folder at present; none if there is none. To look at the lock takes no
     lock."""
     try:
@@ -159,12 +165,12 @@ def holder(folder):
         os.close(file)
 
 
-def is_locked(folder):
+def is_locked(folder: str) -> bool:
     """Whether a `serve` has the folder at present."""
     return holder(folder) is not None
 
 
-def made(path, mode):
+def made(path: str, mode: int) -> list[str]:
     """Makes a folder with this mode, whatever the mask of the process is, and the folders above it. Which were made, the
     lowest last."""
     above = [] if os.path.isdir(os.path.dirname(path)) else made(os.path.dirname(path), FOLDER_MODE)
@@ -176,7 +182,7 @@ def made(path, mode):
     return [*above, path]
 
 
-def check_own(path):
+def check_own(path: str) -> None:
     """Refuses a folder that is a link or another account's, or in which others may write: they could put anything in the
     place of what is in it."""
     it = os.lstat(path)
@@ -191,7 +197,7 @@ def check_own(path):
         raise Refused(f"other accounts may write in {path}: chmod go-w {path} forbids it, or choose another folder")
 
 
-def sync(path):
+def sync(path: str) -> None:
     """Sees that the names in a folder are on the disk."""
     file = os.open(path, os.O_RDONLY | os.O_DIRECTORY)
     try:
@@ -200,12 +206,12 @@ def sync(path):
         os.close(file)
 
 
-def contents(path):
+def contents(path: str) -> bytes:
     with open(path, "rb") as it:
         return it.read()
 
 
-def meaning(plan):
+def meaning(plan: bytes) -> dict[str, Any] | bytes:
     """What a plan says, if it is TOML: two plans that differ in comments and blanks alone are the same."""
     try:
         return tomllib.loads(plan.decode())
@@ -216,10 +222,11 @@ def meaning(plan):
 class Folder:
     """A folder that this process has for itself until it ends."""
 
-    def __init__(self, path, syncs=False):
+    def __init__(self, path: str, syncs: bool = False) -> None:
         self.path = os.path.abspath(path)
         self.records, self.plan = os.path.join(self.path, "records"), os.path.join(self.path, PLAN)
-        self.sockets, self.is_first = {}, False
+        self.sockets: dict[str, int] = {}
+        self.is_first = False
         try:
             new = made(self.path, FOLDER_MODE)
             check_own(self.path)
@@ -238,7 +245,7 @@ class Folder:
         for it in new if syncs else ():
             sync(os.path.dirname(it))
 
-    def lock(self):
+    def lock(self) -> None:
         """Locks the folder, and leaves the number of this process in the lock's file. A link isn't followed."""
         path = os.path.join(self.path, "lock")
         try:
@@ -262,11 +269,11 @@ class Folder:
         os.ftruncate(self.file, 0)
         os.pwrite(self.file, f"{os.getpid()}\n".encode(), 0)
 
-    def is_removed(self):
+    def is_removed(self) -> bool:
         """Whether somebody has removed the folder, with the file of the lock. A folder that is moved has it still."""
         return os.fstat(self.file).st_nlink == 0
 
-    def plan_to_run(self, given):
+    def plan_to_run(self, given: str) -> str:
         """The path of the plan that the farm runs: at its first start a copy of the one that is given, and then always this
         copy. A plan that says something else is refused."""
         plan = contents(given)
@@ -292,27 +299,27 @@ class Folder:
             os.fsync(it.fileno())
         return path
 
-    def keep_plan(self):
+    def keep_plan(self) -> None:
         """Keeps the copy that `live` has accepted."""
         if self.is_first:
             os.replace(f"{self.plan}.new", self.plan)
             sync(self.path)
             self.is_first = False
 
-    def remove_new_plan(self):
+    def remove_new_plan(self) -> None:
         """Removes a copy that `live` hasn't accepted."""
         if self.is_first:
             with contextlib.suppress(FileNotFoundError):
                 os.unlink(f"{self.plan}.new")
 
-    def remove_sockets(self):
+    def remove_sockets(self) -> None:
         """Removes the sockets that this process has made, if they are there still."""
         for path, made_as in self.sockets.items():
             with contextlib.suppress(OSError):
                 if os.lstat(path).st_ino == made_as:
                     os.unlink(path)
 
-    def remove_dead(self, path):
+    def remove_dead(self, path: str) -> None:
         """Removes the socket that a killed `serve` left at this path. Nothing else is removed: not one behind which
         somebody listens, and no file."""
         try:
@@ -332,7 +339,7 @@ class Folder:
                 pass
         raise Refused(f"another program listens at {path}: stop it, or choose another folder")
 
-    def listen(self, name, mode, group):
+    def listen(self, name: str, mode: int, group: int | None) -> socket.socket:
         """The socket of this name. Until it has its mode and its group, no other account can open it."""
         path = socket_path(self.path, name)
         self.remove_dead(path)
@@ -350,13 +357,13 @@ class Folder:
         return one
 
 
-def mode_of(word):
+def mode_of(word: str) -> int:
     if not re.fullmatch(r"0?[0-7]{3}", word):
         raise argparse.ArgumentTypeError("three octal digits are wanted, such as 660")
     return int(word, 8)
 
 
-def group_number(pattern, user):
+def group_number(pattern: str, user: str) -> int:
     """The number of the group of a user's socket. A number is taken for a group's only if it was given as it is: a name that
     was made of the user's is never taken for a number."""
     name = pattern.replace(USER_HERE, user)

@@ -1,5 +1,12 @@
 """What somebody at a terminal may mean who types a word of another system: an instruction, a word of a language or of a shell."""
 
+from __future__ import annotations
+
+from typing import TYPE_CHECKING
+
+if TYPE_CHECKING:
+    from .verbs import Verb
+
 # The instructions of the processor, which are written into a file.
 INSTRUCTIONS = frozenset(
     """j ldlp ldnl ldc ldnlp ldl adc call cj ajw eqc stl stnl opr pfix nfix
@@ -46,7 +53,7 @@ DISCONNECT = frozenset("disconnect unjoin unlink detach unplug separate cut".spl
 BY_WORD = {word: verb for verb, words in VERBS.items() for word in words.split()}
 
 
-def meant(word, table):
+def meant(word: str, table: dict[str, Verb]) -> str | None:
     """What is said to somebody who types this word; none if it is no word of another system. `table` has the verbs that there
     are."""
     low = word.lower().rstrip(";:")

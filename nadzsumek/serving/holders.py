@@ -5,7 +5,7 @@ import signal
 from .folder import holder
 
 
-def is_serve(number):
+def is_serve(number: int) -> bool:
     """Whether a process is a `serve`."""
     try:
         with open(f"/proc/{number}/cmdline", "rb") as it:
@@ -14,13 +14,13 @@ def is_serve(number):
         return False
 
 
-def serve_of(folder):
+def serve_of(folder: str) -> int | None:
     """The number of the `serve` that has a folder; none if there is none, or if this account can't see it."""
     number = holder(folder)
     return number if number is not None and is_serve(number) else None
 
 
-def end_serve(folder):
+def end_serve(folder: str) -> bool:
     """Asks the `serve` that has a folder to end, as a service manager does, and tells whether there is one."""
     number = serve_of(folder)
     try:

@@ -1,9 +1,12 @@
 """What is kept of a class in its folder: its farms and students, the rights of the sockets, the rooms, and who has left."""
+
+from __future__ import annotations
+
 import difflib
 import json
 import os
 import shlex
-from typing import NamedTuple
+from typing import Any, NamedTuple
 
 from .folder import CLASS, COPY_MODE, OPERATOR, Refused
 from .plans import Machine, user_name
@@ -16,7 +19,7 @@ class Rooms(NamedTuple):
     room: str = ROOM
     record_room: str = RECORD_ROOM
 
-    def words(self):
+    def words(self) -> list[str]:
         return ["--room", self.room, "--record-room", self.record_room]
 
 
@@ -25,17 +28,17 @@ class Kept(NamedTuple):
     each student gets (none in a class of an earlier version). Of those who were removed the folder of the farm, and of those who
     were renamed the names that they had before."""
 
-    farms: dict
-    rights: list
+    farms: dict[str, list[str]]
+    rights: list[str]
     rooms: Rooms = Rooms()
     machine: Machine | None = None
-    removed: dict = {}
-    earlier: dict = {}
+    removed: dict[str, str] = {}
+    earlier: dict[str, list[str]] = {}
 
-    def text(self):
+    def text(self) -> str:
         """The text of the file."""
         farms = {os.path.basename(farm): names for farm, names in self.farms.items()}
-        kept = {"farms": farms, "rights": self.rights, "rooms": self.rooms._asdict()}
+        kept: dict[str, Any] = {"farms": farms, "rights": self.rights, "rooms": self.rooms._asdict()}
         kept |= {"machine": self.machine._asdict()} if self.machine else {}
         kept |= (
             {"removed": {name: os.path.basename(farm) for name, farm in self.removed.items()}} if self.removed else {}
@@ -43,17 +46,17 @@ class Kept(NamedTuple):
         kept |= {"earlier": self.earlier} if self.earlier else {}
         return json.dumps(kept, indent=1) + "\n"
 
-    def farm_of(self, user):
+    def farm_of(self, user: str) -> str | None:
         """The folder of a student's farm; none if there is no such student."""
         return next((farm for farm, names in self.farms.items() if user in names), None)
 
 
-def save(path, text):
+def save(path: str, text: str) -> None:
     with open(path, "w", encoding="utf-8") as it:
         it.write(text)
 
 
-def keep(folder, kept):
+def keep(folder: str, kept: Kept) -> None:
     """Writes down what runs. An earlier file is there until the new one is whole."""
     path = os.path.join(folder, CLASS)
     save(f"{path}.new", kept.text())
@@ -62,7 +65,7 @@ def keep(folder, kept):
     os.replace(f"{path}.new", path)
 
 
-def read(folder, kept):
+def read(folder: str, kept: dict[str, Any]) -> Kept:
     """What the file says. A value of a wrong kind is an error of one kind or another."""
     farms, rights, rooms = kept["farms"], kept["rights"], Rooms(**kept.get("rooms", {}))
     machine = Machine(**kept["machine"]) if "machine" in kept else None
@@ -88,7 +91,7 @@ def read(folder, kept):
     )
 
 
-def class_in(folder):
+def class_in(folder: str) -> Kept:
     """What is kept of a class. One of an earlier version has the rooms that are usual."""
     path = os.path.join(folder, CLASS)
     try:
@@ -104,7 +107,7 @@ def class_in(folder):
         ) from None
 
 
-def student_in(farms, name, course):
+def student_in(farms: dict[str, list[str]], name: str, course: str) -> tuple[str, str]:
     """The folder of a student's farm, and his user's name. He may be named as in the file of names too."""
     users = {user: folder for folder, names in farms.items() for user in names}
     for it in (name, user_name(name)[0]):
@@ -115,7 +118,7 @@ def student_in(farms, name, course):
     raise Refused(f"there is no student {name} in {course}: {more}")
 
 
-def place_of(folder, name):
+def place_of(folder: str, name: str) -> tuple[str, str]:
     """The folder of the farm in which a user is, and his name: of a class its farm, and of any other folder itself."""
     if not os.path.isfile(os.path.join(folder, CLASS)):
         return folder, name

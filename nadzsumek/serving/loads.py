@@ -1,12 +1,19 @@
 """What a terminal finds before it sends a program: whether the node that its host is joined with waits for a boot. It asks by lines
 that are no events, so that nothing is recorded of it; only a node that computes is looked at, which changes nothing either."""
+
+from __future__ import annotations
+
 import re
-from typing import NamedTuple
+from collections.abc import Callable
+from typing import TYPE_CHECKING, NamedTuple
 
 from .connections import opened
 from .folder import Refused
 from .ports import drivers_in
 from .verbs import Wrong, goes_on
+
+if TYPE_CHECKING:
+    from .ports import Wiring
 
 # How long each of its questions may take.
 SECONDS = 10
@@ -43,7 +50,7 @@ class Hindered(Wrong):
 
     word = "notbooting"
 
-    def __init__(self, why, lines=(), advice=None):
+    def __init__(self, why: str, lines: list[str] | tuple[()] = (), advice: str | None = None) -> None:
         self.lines, self.why = tuple(lines), why
         self.advice = advice or f"Type {' and then '.join(self.lines)} first"
         super().__init__(f"{why}. {self.advice}, or {UNCHECKED}" if lines or advice else why)
@@ -52,19 +59,19 @@ class Hindered(Wrong):
 class Quiet:
     """A connection beside that of a terminal. Its answers go to nobody else."""
 
-    def __init__(self, folder, name):
+    def __init__(self, folder: str, name: str) -> None:
         self.stream = opened(folder, name)
         self.stream.settimeout(SECONDS)
         self.lines = self.stream.makefile("rb")
 
-    def __enter__(self):
+    def __enter__(self) -> Quiet:
         return self
 
-    def __exit__(self, *_):
+    def __exit__(self, *_: object) -> None:
         self.lines.close()
         self.stream.close()
 
-    def ask(self, line):
+    def ask(self, line: str) -> list[str]:
         """The lines of an answer. What isn't answered is an OSError."""
         self.stream.sendall(f"{TAG}{line}\n".encode())
         answers = []
@@ -79,7 +86,7 @@ class Quiet:
         raise OSError
 
 
-def check_load(folder, name, wiring, host, file):
+def check_load(folder: str, name: str, wiring: Wiring | None, host: int, file: str) -> None:
     """Refuses a load that would boot nothing, as far as that can be known: the plan must be readable, and the farm must answer."""
     if wiring is None:
         return
@@ -94,7 +101,7 @@ def check_load(folder, name, wiring, host, file):
         check_host(wiring, None, host, file)
 
 
-def fed_by(wiring, drivers, host):
+def fed_by(wiring: Wiring, drivers: dict[int, int | None] | None, host: int) -> list[tuple[int, int, int]]:
     """The links that get what a host sends: node, link and port."""
     return [
         (node, link, port)
@@ -104,7 +111,7 @@ def fed_by(wiring, drivers, host):
     ]
 
 
-def check_host(wiring, drivers, host, file):
+def check_host(wiring: Wiring, drivers: dict[int, int | None] | None, host: int, file: str) -> None:
     """Refuses a number that is none of the user's hosts. It may be a node's: then it is said how a host is joined with it."""
     if host in wiring.hosts:
         return
@@ -123,7 +130,7 @@ def check_host(wiring, drivers, host, file):
     )
 
 
-def link_of(wiring, drivers, host):
+def link_of(wiring: Wiring, drivers: dict[int, int | None], host: int) -> tuple[int, int]:
     """The node and the link that a host is joined with, both ways and with no other."""
     fed, port = fed_by(wiring, drivers, host), wiring.hosts[host]
     if not fed:
@@ -150,7 +157,7 @@ def link_of(wiring, drivers, host):
     return node, link
 
 
-def check_node(wiring, host, node, link, ask):
+def check_node(wiring: Wiring, host: int, node: int, link: int, ask: Callable[[str], list[str]]) -> None:
     """Refuses a node that doesn't wait for a boot, and one that will never get a byte of its host."""
     # of a machine that computes `why` may take seconds, and is of a moment that is over
     answers = ask(f"why {node}") if ask("rest")[0] == "rest quiet" else []
@@ -165,7 +172,7 @@ def check_node(wiring, host, node, link, ask):
         raise Hindered(f"node {node} {state}, and takes no boot before it is reset", [f"reset {node}"])
 
 
-def state_of(node, answers, ask):
+def state_of(node: int, answers: list[str], ask: Callable[[str], list[str]]) -> str | None:
     """What a node does that doesn't wait for a boot; none if it does, or if it isn't known."""
     if not answers or re.fullmatch(r"why after \d+ of \d+ .*", answers[0]):
         # what it did after its first Steps isn't what it does now

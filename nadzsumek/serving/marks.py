@@ -1,10 +1,19 @@
 """What came of an exercise, as a table of text, as a file for a spreadsheet, and as a page for a browser."""
+
+from __future__ import annotations
+
 import csv
 import html
 import io
+from collections.abc import Iterator
+from typing import TYPE_CHECKING
 
 from .escapes import escaped
 from .pages import page
+
+if TYPE_CHECKING:
+    from .checking import Outcome, Row
+    from .exercises import Exercise
 
 # So begins a cell that a spreadsheet would take for a formula. An apostrophe before it makes it a text.
 FORMULA = ("=", "+", "-", "@", "\t", "\r")
@@ -16,7 +25,7 @@ pre { margin: .3em 0 0; white-space: pre-wrap; color: #444 }
 """
 
 
-def head_of(exercise):
+def head_of(exercise: Exercise) -> list[str]:
     return [
         "user",
         "program",
@@ -27,13 +36,13 @@ def head_of(exercise):
     ]
 
 
-def steps_of(row):
+def steps_of(row: Row) -> str:
     """How many Steps all its tests took; a hyphen if that isn't known of one."""
-    steps = [it.steps for it in row.outcomes]
-    return "-" if None in steps else f"{sum(steps)}"
+    steps = [it.steps for it in row.outcomes if it.steps is not None]
+    return f"{sum(steps)}" if len(steps) == len(row.outcomes) else "-"
 
 
-def cells_of(exercise, row):
+def cells_of(exercise: Exercise, row: Row) -> list[str]:
     return [
         row.user,
         row.program,
@@ -44,13 +53,13 @@ def cells_of(exercise, row):
     ]
 
 
-def short(text):
+def short(text: str) -> str:
     """A remark on one line of the table."""
     line = " ".join(escaped(text, "\n").split("\n"))
     return line if len(line) <= MOST_REMARK else f"{line[:MOST_REMARK - 2]}.."
 
 
-def summary(exercise, rows):
+def summary(exercise: Exercise, rows: list[Row]) -> Iterator[str]:
     """What is said below the table: how many have all points, and of each test how many came through."""
     whole = sum(row.points == exercise.points() for row in rows)
     yield f"{exercise.title}: {whole} of {len(rows)} have all {exercise.points()} points"
@@ -58,7 +67,7 @@ def summary(exercise, rows):
         yield f"{at + 1} {test.name}: {sum(row.outcomes[at].result == 'ok' for row in rows)} of {len(rows)}"
 
 
-def as_table(exercise, rows):
+def as_table(exercise: Exercise, rows: list[Row]) -> list[str]:
     """The lines of a table."""
     cells = [head_of(exercise), *(cells_of(exercise, row) for row in rows)]
     cells = [[*(escaped(it) for it in row[:-1]), short(row[-1])] for row in cells]
@@ -73,13 +82,13 @@ def as_table(exercise, rows):
     return [*lines, "", *(escaped(it) for it in summary(exercise, rows))]
 
 
-def plain(cell):
+def plain(cell: str) -> str:
     """A cell that no spreadsheet takes for a formula."""
     text = escaped(cell, "\n")
     return f"'{text}" if text.startswith(FORMULA) and text != "-" else text
 
 
-def as_csv(exercise, rows):
+def as_csv(exercise: Exercise, rows: list[Row]) -> str:
     """The table for a spreadsheet, with the students' names as they are."""
     it = io.StringIO()
     table = csv.writer(it)
@@ -113,7 +122,7 @@ def as_csv(exercise, rows):
     return it.getvalue()
 
 
-def cell_of(outcome):
+def cell_of(outcome: Outcome) -> str:
     """A test's cell on the page."""
     more = "".join(f"<div>{html.escape(escaped(it))}</div>" for it in [outcome.remark] if it)
     why = f"<pre>{html.escape(escaped(outcome.why, chr(10)))}</pre>" if outcome.why else ""
@@ -121,7 +130,7 @@ def cell_of(outcome):
     return f'<td class="{kind}">{html.escape(outcome.result)}{more}{why}</td>'
 
 
-def as_page(exercise, rows):
+def as_page(exercise: Exercise, rows: list[Row]) -> str:
     """The page: all that is known of each test."""
     heads = "".join(
         f"<th>{html.escape(escaped(it))}</th>"

@@ -1,24 +1,32 @@
 """What a line at a terminal sends: a line for `live`, or several for load, which reads a file. Words that are wrong are refused with
 what to try, and `live` decides by itself."""
+
+from __future__ import annotations
+
 import os
 import subprocess
+from typing import TYPE_CHECKING
 
 from .folder import EXAMPLES, OPERATOR, Refused, build, program
 from .hints import meant
 from .texts import in_quotes
 from .verbs import ALIASES, ALL, FILE, OPERATORS, SENTENCE, TEXT, USERS, Wrong, check, find, with_ports
 
+if TYPE_CHECKING:
+    from .ports import Ports
+    from .verbs import Verb
+
 # How the name of a file ends that has a program in occam.
 OCCAM = ".occ"
 
 
-def table_of(name, ports=None):
+def table_of(name: str, ports: Ports | None = None) -> dict[str, Verb]:
     """The verbs of a user, with examples for his ports if they are known, or of the operator."""
     users = with_ports(ports) if ports else USERS
     return {**(OPERATORS if name == OPERATOR else users), **ALL}
 
 
-def split(name, line, ports=None):
+def split(name: str, line: str, ports: Ports | None = None) -> tuple[str, Verb, list[str]]:
     """The verb of a line with its words. The last word of some verbs goes to the end of the line."""
     words = line.split()
     table, others = table_of(name, ports), USERS if name == OPERATOR else OPERATORS
@@ -36,7 +44,7 @@ def split(name, line, ports=None):
     return first, verb, [it.strip() for it in words[1:]]
 
 
-def lines_of(name, line, ports=None):
+def lines_of(name: str, line: str, ports: Ports | None = None) -> list[str]:
     """The lines that a line asks for, none for `help` and `quit`, which the terminal does itself."""
     first, verb, words = split(name, line, ports)
     if first in ALL:
@@ -49,7 +57,7 @@ def lines_of(name, line, ports=None):
     return [" ".join(([f"!{first}"] if name == OPERATOR else [first]) + words)]
 
 
-def examples():
+def examples() -> dict[str, str]:
     """The names of the examples that can be loaded, each with its path."""
     return {
         name: os.path.join(folder, name)
@@ -60,7 +68,7 @@ def examples():
     }
 
 
-def found(file):
+def found(file: str) -> str:
     """The path of a program's file: as it is said, with quotes round it or without, or one of the examples, whose ending may be
     left out."""
     name = file[1:-1] if len(file) > 2 and file[0] in "'\"" and file[-1] == file[0] else file
@@ -75,7 +83,7 @@ def found(file):
     )
 
 
-def translated(path, *words):
+def translated(path: str, *words: str) -> tuple[list[str] | None, str]:
     """The lines that `lab` prints of a program, which is in occam if its file's name says so: its code, or what the words ask
     for. Or what `lab` says is wrong."""
     call = ["occam", os.path.abspath(path), *(words or ["--code"])] if path.endswith(OCCAM) else ["assemble", *words]
@@ -85,7 +93,7 @@ def translated(path, *words):
     return done.stdout.decode().splitlines() if done.returncode == 0 else None, told
 
 
-def loading(name, host, file):
+def loading(name: str, host: str, file: str) -> list[str]:
     """The lines that boot a program: its code, or pokes and a jump if it is too long for a boot."""
     path = found(file)
     try:

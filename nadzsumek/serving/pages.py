@@ -23,7 +23,7 @@ th {{ background: #eee }} small {{ color: #555 }}
 """
 
 
-def page(title, body, sheet="", seconds=None):
+def page(title: str, body: str, sheet: str = "", seconds: int | None = None) -> str:
     """A page with this body. With a number of seconds a browser reads it again when they are over."""
     again = f'\n<meta http-equiv="refresh" content="{seconds}">' if seconds else ""
     return PAGE.format(title=html.escape(escaped(title)), body=body, sheet=sheet.lstrip("\n"), again=again)

@@ -1,8 +1,9 @@
 """The plan of a farm as the parts of its students, and where one more has a place."""
 import os
 import re
-import tomllib
 from typing import NamedTuple
+
+import tomllib
 
 from .folder import PLAN, Refused, contents, meaning
 from .plans import DOMAINS, PORTS, VERSION, Machine
@@ -18,11 +19,11 @@ class Part(NamedTuple):
 
     name: str
     text: str
-    ports: tuple
+    ports: tuple[int, ...]
     machine: Machine
 
 
-def part_of(text):
+def part_of(text: str) -> Part:
     """The part of this text, which has one user."""
     (domain,) = tomllib.loads(VERSION + text)["domain"]
     (user,) = domain["user"]
@@ -31,12 +32,12 @@ def part_of(text):
     return Part(user["name"], text.strip("\n"), ports, machine)
 
 
-def text_of(parts):
+def text_of(parts: list[Part]) -> str:
     """The plan with these parts."""
     return VERSION + "".join(f"\n{it.text}\n" for it in parts)
 
 
-def parts_of(farm, names):
+def parts_of(farm: str, names: list[str]) -> list[Part]:
     """The parts of a farm's plan, which must have just these users; and the plan that it runs must be that of the class."""
     path, kept = os.path.join(farm, "plan.toml"), os.path.join(farm, PLAN)
     plan = contents(path)
@@ -55,9 +56,9 @@ def parts_of(farm, names):
     return parts
 
 
-def runs_of(ports):
+def runs_of(ports: list[int]) -> list[list[int]]:
     """Ports in their order as ranges."""
-    ranges = []
+    ranges: list[list[int]] = []
     for port in sorted(ports):
         if ranges and ranges[-1][1] == port - 1:
             ranges[-1][1] = port
@@ -66,11 +67,11 @@ def runs_of(ports):
     return ranges
 
 
-def free_ports(parts):
+def free_ports(parts: list[Part]) -> list[int]:
     return sorted(set(range(PORTS)).difference(*(it.ports for it in parts)))
 
 
-def place_for(parts, count):
+def place_for(parts: list[Part], count: int) -> list[list[int]] | None:
     """Ranges of so many ports that no part has: one if there is one, and else the longest ones; none if there is no place."""
     if len(parts) == DOMAINS:
         return None

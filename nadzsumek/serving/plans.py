@@ -1,10 +1,14 @@
 """A class as plans: whose name is which, how many farms there are, and what each student gets."""
+
+from __future__ import annotations
+
 import codecs
 import os
 import re
 import shlex
 import unicodedata
-from typing import NamedTuple
+from collections.abc import Callable
+from typing import Any, NamedTuple
 
 from .folder import OPERATOR, Refused
 
@@ -48,26 +52,26 @@ class Machine(NamedTuple):
     memory: int
     limit: int
 
-    def links(self):
+    def links(self) -> int:
         return 1 if self.nodes == 1 else 2
 
-    def ports(self):
+    def ports(self) -> int:
         return self.nodes * self.links() + self.hosts
 
-    def link_port(self, node):
+    def link_port(self, node: int) -> int:
         """The port of a node's first link."""
         return node * self.links()
 
-    def host_port(self, host):
+    def host_port(self, host: int) -> int:
         """The port of a host."""
         return self.nodes * self.links() + host
 
-    def devices(self):
+    def devices(self) -> list[str]:
         """The device at each port, from port 0."""
         links = [f"node {node}, link {link}" for node in range(self.nodes) for link in range(self.links())]
         return links + [f"host {host}" for host in range(self.hosts)]
 
-    def check(self):
+    def check(self) -> None:
         """Refuses what no plan may have."""
         for what, number, among in (
             ("nodes", self.nodes, NODES),
@@ -79,7 +83,7 @@ class Machine(NamedTuple):
                 step = f", a multiple of {among.step}" if among.step > 1 else ""
                 raise Refused(f"--{what} is {among[0]} to {among[-1]}{step}, and not {number}")
 
-    def domain(self, name, ranges):
+    def domain(self, name: str, ranges: list[list[int]]) -> str:
         """The part of a plan for this user, who has the ports of these ranges."""
         own = self.nodes * self.links()
         text = [
@@ -93,7 +97,7 @@ class Machine(NamedTuple):
         return "\n".join(text) + "\n"
 
 
-def spelled(letter):
+def spelled(letter: str) -> str | None:
     """A letter by a to z, or what stands for it between words; none if it can't be spelled so."""
     plain = unicodedata.normalize("NFKD", letter.lower().translate(SPELLED))
     ascii_part = "".join(it for it in plain if it.isascii())
@@ -102,7 +106,7 @@ def spelled(letter):
     return ascii_part or {UNSEEN: "", "M": "", "P": " ", "Z": " "}.get(kind if kind == UNSEEN else kind[0])
 
 
-def user_name(person):
+def user_name(person: str) -> tuple[str, list[str]]:
     """A person's name as a user's: letters without their marks, digits, and hyphens between words. And what of it is left
     out."""
     letters = [(it, spelled(it)) for it in unicodedata.normalize("NFC", person)]
@@ -111,7 +115,7 @@ def user_name(person):
     return name[:NAME].strip("-"), [*([left] if left else []), *([name[NAME:]] if name[NAME:] else [])]
 
 
-def lines_of(path):
+def lines_of(path: str) -> list[str]:
     """The lines of a file of names. A line feed divides them, with a carriage return before it or without, and nothing else."""
     try:
         with open(path, "rb") as it:
@@ -132,12 +136,12 @@ def lines_of(path):
         ) from None
 
 
-def nameless(text):
+def nameless(text: str) -> str | None:
     """The first character of a text that no name may have; none if there is none."""
     return next((it for it in text if unicodedata.category(it) in NAMELESS and it != TAB), None)
 
 
-def check_person(person):
+def check_person(person: str) -> None:
     """Refuses a name with a character that none may have."""
     wrong = nameless(person)
     if wrong is not None:
@@ -145,7 +149,7 @@ def check_person(person):
         raise Refused(f"{person!r} has the character U+{ord(wrong):04X}, which no name may have: {more}")
 
 
-def checked_name(person, students):
+def checked_name(person: str, students: dict[str, str]) -> tuple[str, list[str]]:
     """The user of a person beside these students, and what of the name is left out in it."""
     name, left = user_name(person)
     if not name:
@@ -157,17 +161,21 @@ def checked_name(person, students):
     return name, left
 
 
-def refuse_all(wrong):
+def refuse_all(wrong: list[str]) -> None:
     """Refuses all that is wrong at once."""
     if wrong:
         raise Refused("\n".join(wrong))
 
 
-def students_among(people, check=lambda user, person: None):
+def students_among(
+    people: list[tuple[str, str]], check: Callable[[str, str], object] = lambda user, person: None
+) -> tuple[dict[str, str], list[str]]:
     """People as students: each comes with the place where he is named, as it is told. Each has the name of a user, which `check`
     may refuse, and there is a note for each of whom something is left out in it. All that are wrong are refused at once.
     """
-    students, notes, wrong = {}, [], []
+    students: dict[str, str] = {}
+    notes: list[str] = []
+    wrong: list[str] = []
     for place, person in people:
         try:
             check_person(person)
@@ -183,7 +191,7 @@ def students_among(people, check=lambda user, person: None):
     return students, notes
 
 
-def people_in(path):
+def people_in(path: str) -> list[tuple[str, str]]:
     """The people that a file names, one a line, each with his place."""
     people = [
         (f"{path}, line {number}: ", line)
@@ -195,18 +203,18 @@ def people_in(path):
     return people
 
 
-def students_of(path):
+def students_of(path: str) -> tuple[dict[str, str], list[str]]:
     """The students that a file names."""
     return students_among(people_in(path))
 
 
-def farms_of(names, machine):
+def farms_of(names: list[str], machine: Machine) -> list[list[str]]:
     """The users of each farm, so many as it has domains and ports for."""
     most = min(DOMAINS, PORTS // machine.ports())
     return [names[at : at + most] for at in range(0, len(names), most)]
 
 
-def plan_of(names, machine):
+def plan_of(names: list[str], machine: Machine) -> str:
     """The plan of one farm."""
     ports = machine.ports()
     return VERSION + "".join(

@@ -1,8 +1,13 @@
 """What a terminal knows of its user's machine: it reads the plan, if that can be read in the farm's folder."""
+
+from __future__ import annotations
+
 import os
 import re
+from collections.abc import Callable
+from typing import Any, NamedTuple, TypeVar
+
 import tomllib
-from typing import NamedTuple
 
 from .folder import PLAN
 
@@ -10,6 +15,9 @@ from .folder import PLAN
 UNREAD = (OSError, ValueError, LookupError, TypeError, AttributeError, RecursionError)
 # What a word of an output has: its physical input, and whether it is ready and connected.
 INPUT, READY, CONNECTED = 0x1F, 0x40, 0x80
+# A domain of a plan, as TOML has it.
+Domain = dict[str, Any]
+Found = TypeVar("Found")
 
 
 class Ports(NamedTuple):
@@ -24,19 +32,19 @@ class Wiring(NamedTuple):
     """A user's machine: the physical port of each of its ports, the port of each of the user's own hosts, and of each node the
     ports of its four links, -1 for those that aren't wired."""
 
-    physical: tuple
-    hosts: dict
-    nodes: tuple
+    physical: tuple[int, ...]
+    hosts: dict[int, int]
+    nodes: tuple[tuple[int, ...], ...]
 
-    def links_of(self, node):
+    def links_of(self, node: int) -> list[tuple[int, int]]:
         """The wired links of a node, each with its port."""
         return [(link, port) for link, port in enumerate(self.nodes[node]) if port >= 0]
 
-    def join(self, node, host):
+    def join(self, node: int, host: int) -> str:
         """The line that joins a host with a node, by the node's first wired link."""
         return f"join {self.links_of(node)[0][1]} {self.hosts[host]}"
 
-    def device(self, port):
+    def device(self, port: int) -> str:
         """What is at a port."""
         own = next((f"host {host}" for host, at in self.hosts.items() if at == port), None)
         links = [
@@ -45,10 +53,10 @@ class Wiring(NamedTuple):
             for link, at in self.links_of(node)
             if at == port
         ]
-        return own or next(iter(links), "nothing of yours")
+        return own if own is not None else next(iter(links), "nothing of yours")
 
 
-def hosts_of(domain, name):
+def hosts_of(domain: Domain, name: str) -> dict[int, int] | None:
     """The ports of the hosts of a domain's user, each by its number; none if there is no such user. The hosts of a domain are
     numbered through its users' lists."""
     before = 0
@@ -59,7 +67,7 @@ def hosts_of(domain, name):
     return None
 
 
-def ports_in(domain, name):
+def ports_in(domain: Domain, name: str) -> Ports | None:
     """The ports of this user, if he is one of the domain's."""
     hosts = hosts_of(domain, name)
     if hosts is None:
@@ -69,7 +77,7 @@ def ports_in(domain, name):
     return Ports(wired[0], hosts[first], first)
 
 
-def wiring_in(domain, name):
+def wiring_in(domain: Domain, name: str) -> Wiring | None:
     """The machine of this user, if he is one of the domain's."""
     hosts = hosts_of(domain, name)
     if hosts is None:
@@ -79,7 +87,7 @@ def wiring_in(domain, name):
     return Wiring(physical, hosts, tuple(tuple(node["links"]) for node in domain["node"]))
 
 
-def found_in(path, name, reads):
+def found_in(path: str, name: str, reads: Callable[[Domain, str], Found | None]) -> Found | None:
     """What is read of the domain of a user; none if the plan can't be read, or has no such user."""
     if not os.path.isfile(path):
         return None
@@ -91,17 +99,17 @@ def found_in(path, name, reads):
         return None
 
 
-def ports_of(folder, name):
+def ports_of(folder: str, name: str) -> Ports | None:
     """The ports of this user; none if the plan can't be read."""
     return found_in(os.path.join(folder, PLAN), name, ports_in)
 
 
-def wiring_of(folder, name):
+def wiring_of(folder: str, name: str) -> Wiring | None:
     """The machine of this user; none if the plan can't be read."""
     return found_in(os.path.join(folder, PLAN), name, wiring_in)
 
 
-def users_in(path):
+def users_in(path: str) -> list[list[str]]:
     """The users of each domain of a plan, in its order; nobody if it can't be read."""
     try:
         with open(path, "rb") as it:
@@ -110,7 +118,7 @@ def users_in(path):
         return []
 
 
-def ports_told(answer, physical):
+def ports_told(answer: str, physical: tuple[int, ...]) -> str:
     """What `!words` says of a machine with these physical ports, and of no other, as the answer to a user's `ports`: the input
     that drives each output, in brackets if the output isn't ready, and a hyphen if none does."""
     words = {int(output): int(word, 16) for output, word in re.findall(r"\b(\d+):([0-9a-f]+)\b", answer)}
@@ -123,7 +131,7 @@ def ports_told(answer, physical):
     return " ".join(["ports", *told])
 
 
-def drivers_in(answer):
+def drivers_in(answer: str) -> dict[int, int | None] | None:
     """The input that drives each output by an answer to `ports`, none if none does; none for all if it is another answer."""
     pairs = re.fullmatch(r"ports((?: \d+:(?:-|\d+|\(\d+\)))*)", answer)
     if not pairs:
@@ -134,7 +142,7 @@ def drivers_in(answer):
     }
 
 
-def joins_told(answer, wiring):
+def joins_told(answer: str, wiring: Wiring) -> list[str]:
     """What an answer to `ports` means, a line for each port that something drives."""
     drivers = drivers_in(answer) or {}
     lines = []

@@ -1,6 +1,10 @@
 """The records of a user's domain: which there are, and what they say."""
+
+from __future__ import annotations
+
 import os
 import re
+from collections.abc import Iterator
 
 # How many bytes of a record are read at a time.
 PIECE = 1 << 18
@@ -8,7 +12,7 @@ PIECE = 1 << 18
 FAULT = re.compile(rb"\bstep (\d+)\b.* fault (\d+(?: [0-9a-f]+)?)$")
 
 
-def records_of(records, name):
+def records_of(records: str, name: str) -> list[str]:
     """The records of a user's domain, in their order: each restart begins another."""
     numbers = {}
     for entry in os.listdir(records) if os.path.isdir(records) else ():
@@ -18,7 +22,7 @@ def records_of(records, name):
     return [os.path.join(records, numbers[it]) for it in sorted(numbers)]
 
 
-def pieces_from_the_end(file):
+def pieces_from_the_end(file: int) -> Iterator[bytes]:
     """The lines of a file in pieces of some lines, the last ones first. A record may be cut off meanwhile."""
     at, rest = os.fstat(file).st_size, b""
     while at:
@@ -29,7 +33,7 @@ def pieces_from_the_end(file):
         yield whole
 
 
-def fault_in(piece):
+def fault_in(piece: bytes) -> str | None:
     """The last fault in some lines: node and fault; none if there is none."""
     end = len(piece)
     while (at := piece.rfind(b" fault ", 0, end)) >= 0:
@@ -41,7 +45,7 @@ def fault_in(piece):
     return None
 
 
-def last_fault(records, name):
+def last_fault(records: str, name: str) -> str:
     """The last fault that is recorded of a user's nodes since the last restart, or a hyphen."""
     try:
         file = os.open(records_of(records, name)[-1], os.O_RDONLY)

@@ -17,12 +17,13 @@ ERRORS = 2
 class Reports:
     """Lines for standard error, each with its time, which a thread of its own writes."""
 
-    def __init__(self):
-        self.waiting, self.left_out = queue.Queue(MOST_WAITING), 0
+    def __init__(self) -> None:
+        self.waiting: queue.Queue[str | None] = queue.Queue(MOST_WAITING)
+        self.left_out = 0
         self.thread = threading.Thread(target=self.write, daemon=True)
         self.thread.start()
 
-    def say(self, text):
+    def say(self, text: str) -> None:
         """Writes a line, as soon as those before it are read."""
         line = f"{time.strftime('%Y-%m-%d %H:%M:%S')} {escaped(text)}\n"
         try:
@@ -33,7 +34,7 @@ class Reports:
         except queue.Full:
             self.left_out += 1
 
-    def write(self):
+    def write(self) -> None:
         # not by sys.stderr, whose lock this thread would have for ever if nobody reads
         while (line := self.waiting.get()) is not None:
             rest = line.encode(errors="backslashreplace")
@@ -43,7 +44,7 @@ class Reports:
                 except OSError:
                     break
 
-    def end(self):
+    def end(self) -> None:
         """Waits a little until all is written."""
         try:
             self.waiting.put_nowait(None)
@@ -52,7 +53,7 @@ class Reports:
         self.thread.join(END_SECONDS)
 
 
-def open_streams():
+def open_streams() -> None:
     """Opens nothing in place of each standard stream that is closed, so that no other file gets its number."""
     for number in range(ERRORS + 1):
         try:

@@ -1,9 +1,13 @@
 """The rooms of domains: how much memory a domain may take for its journal and lists, and how much of the disk for its records,
 and what all domains of a farm may take together."""
+
+from __future__ import annotations
+
 import argparse
 import contextlib
 import os
 import re
+from collections.abc import Iterator
 
 # What each domain has unless another room is given, as `live` has it.
 ROOM, RECORD_ROOM = "64M", "256M"
@@ -13,21 +17,21 @@ LEAST, MOST = 1 << 20, 64 << 30
 GROUPS = "/sys/fs/cgroup"
 
 
-def bytes_of(word):
+def bytes_of(word: str) -> int | None:
     """How many bytes a size is, such as 64M; none if it is no size, or one that no room may have."""
     size = re.fullmatch(r"([0-9]{1,12})([KMG]?)", word, re.ASCII)
     count = int(size[1]) * UNITS[size[2]] if size else 0
     return count if LEAST <= count <= MOST else None
 
 
-def size_of(word):
+def size_of(word: str) -> str:
     """A word of the command line that is a room's size, as it is handed to `live`."""
     if bytes_of(word) is None:
         raise argparse.ArgumentTypeError("a room's bytes are wanted, from 1M to 64G, such as 64M")
     return word
 
 
-def add_rooms(parser, room, record_room):
+def add_rooms(parser: argparse.ArgumentParser, room: str | None, record_room: str | None) -> None:
     """The words for rooms, with these sizes unless others are given."""
     parser.add_argument(
         "--room",
@@ -45,12 +49,12 @@ def add_rooms(parser, room, record_room):
     )
 
 
-def shown(count):
+def shown(count: int) -> str:
     """Bytes as a person reads them."""
     return f"{count / UNITS['G']:.1f} GiB" if count >= UNITS["G"] else f"{count / UNITS['M']:.1f} MiB"
 
 
-def group_bounds():
+def group_bounds() -> Iterator[int]:
     """What the groups of this process may have of memory: its own, and those above it."""
     with contextlib.suppress(OSError):
         with open("/proc/self/cgroup", encoding="utf-8") as it:
@@ -63,7 +67,7 @@ def group_bounds():
                         yield int(most)
 
 
-def memory_there():
+def memory_there() -> tuple[int, str]:
     """How much memory there is, and whose bound that is: the machine's, or that of the service in which this process runs."""
     machine = os.sysconf("SC_PHYS_PAGES") * os.sysconf("SC_PAGE_SIZE")
     service = min(group_bounds(), default=machine)
@@ -73,21 +77,21 @@ def memory_there():
 class Needed:
     """What the rooms of some domains may take together, beside what is there."""
 
-    def __init__(self, domains, room, record_room, folder):
+    def __init__(self, domains: int, room: str, record_room: str, folder: str) -> None:
         self.domains, self.folder = domains, folder
-        self.memory, self.disk = (domains * bytes_of(it) for it in (room, record_room))
+        self.memory, self.disk = (domains * (bytes_of(it) or 0) for it in (room, record_room))
         self.there, self.whose = memory_there()
         disk = os.statvfs(folder)
         self.free = disk.f_bavail * disk.f_frsize
 
-    def told(self):
+    def told(self) -> str:
         rooms = "the room of 1 domain" if self.domains == 1 else f"the rooms of {self.domains} domains"
         return (
             f"{rooms} may take {shown(self.memory)} of memory ({self.whose} {shown(self.there)}) and {shown(self.disk)} on "
             f"disk ({self.folder} has {shown(self.free)} free)"
         )
 
-    def warnings(self):
+    def warnings(self) -> Iterator[str]:
         """What is said besides if there is less than the rooms may take."""
         if self.memory > self.there:
             yield "warning: if all rooms are used up there isn't memory for them: give smaller ones by --room"

@@ -1,13 +1,19 @@
 """One run of `live` after another: how it is started, spoken to, and started again if it ends by a fault."""
+
+from __future__ import annotations
+
 import asyncio
 import collections
 import re
 import signal
 import time
+from collections.abc import Callable
 
 from .folder import Refused
 from .lines import Lines
 
+# What is handed each line of a standard error.
+Tell = Callable[[str], object]
 # If `live` ends more often than so many times in so many seconds, it isn't started again.
 MOST_STARTS = 5
 WITHIN = 60
@@ -28,7 +34,7 @@ DONE_AGAIN = re.compile(r"(?:.*/)?([^/]+)\.replay: (\d+ of \d+ MiB) are done aga
 NOBODYS = re.compile(r"error (\d+) user")
 
 
-def how(status):
+def how(status: int) -> str:
     """How a process ended."""
     if status < 0:
         return f"by signal {-status} ({signal.Signals(-status).name})"
@@ -38,13 +44,17 @@ def how(status):
 class Live:
     """One run of `live`. Its lines are counted as it counts them. `tell` is handed each line of its standard error."""
 
-    def __init__(self, process, tell):
-        self.process, self.tell, self.count, self.errors = process, tell, 0, collections.deque(maxlen=KEPT)
-        self.lines, self.kept = Lines(process.stdout), []
+    def __init__(self, process: asyncio.subprocess.Process, tell: Tell) -> None:
+        assert process.stdin and process.stdout and process.stderr, "all three are pipes"
+        self.process, self.tell, self.count = process, tell, 0
+        self.input, self.complaints = process.stdin, process.stderr
+        self.errors: collections.deque[str] = collections.deque(maxlen=KEPT)
+        self.lines = Lines(process.stdout)
+        self.kept: list[bytes] = []
         self.listening = asyncio.ensure_future(self.listen())
 
     @classmethod
-    async def start(cls, words, tell):
+    async def start(cls, words: list[str], tell: Tell) -> Live:
         """Starts it in a group of its own, so that a signal of the terminal reaches `serve` alone. As Python does, it passes
         over the signals by which a write to a closed pipe or past a limit of files would end it: the write fails then, and
         that is told."""
@@ -56,10 +66,10 @@ class Live:
             tell,
         )
 
-    async def listen(self):
+    async def listen(self) -> None:
         """Hands on what it says on standard error, and keeps the end of it."""
         held = b""
-        while piece := await self.process.stderr.read(MOST_TOLD):
+        while piece := await self.complaints.read(MOST_TOLD):
             *whole, held = (held + piece).split(b"\n")
             if len(held) > MOST_TOLD:
                 whole, held = [*whole, held], b""
@@ -68,18 +78,18 @@ class Live:
         if held:
             self.hear(held)
 
-    def hear(self, line):
+    def hear(self, line: bytes) -> None:
         text = line.decode(errors="backslashreplace")
         self.errors.append(text)
         self.tell(text)
 
-    def say(self, line):
+    def say(self, line: bytes) -> int:
         """Sends a line, and returns its number in this run."""
         self.count += 1
-        self.process.stdin.write(line)
+        self.input.write(line)
         return self.count
 
-    async def users(self):
+    async def users(self) -> list[str]:
         """The names of the plan's users, in its order; none if the program has ended. What it says besides is kept, as the notes
         of a domain that rests already."""
         self.say(b"!users\n")
@@ -95,20 +105,20 @@ class Live:
                     self.kept.append(line)
         return names if is_told else []
 
-    async def some(self):
+    async def some(self) -> list[bytes]:
         """The lines that it says next, at least one; none at the end. Those that were kept come first."""
         if self.kept:
             lines, self.kept = self.kept, []
             return lines
         return await self.lines.some()
 
-    async def end(self):
+    async def end(self) -> int:
         """Its status, when it has ended."""
         status = await self.process.wait()
         await asyncio.wait({self.listening}, timeout=1)
         return status
 
-    def kill(self):
+    def kill(self) -> None:
         try:
             self.process.kill()
         except ProcessLookupError:
@@ -118,10 +128,10 @@ class Live:
 class Starts:
     """When `live` was started again, and whether it may be once more."""
 
-    def __init__(self):
-        self.times = collections.deque()
+    def __init__(self) -> None:
+        self.times: collections.deque[float] = collections.deque()
 
-    def another(self, has_started=True):
+    def another(self, has_started: bool = True) -> float | None:
         """How many seconds to wait before the next start; none if there were too many. It is longer if the program couldn't
         be started at all."""
         now = time.monotonic()
@@ -134,7 +144,7 @@ class Starts:
         return 0.05 * (2**count - 1) if has_started else PAUSES[count]
 
 
-async def begin(words, records, begun, tell):
+async def begin(words: list[str], records: str, begun: Callable[[Live], object], tell: Tell) -> tuple[Live, list[str]]:
     """A run of `live` that answers, and its users. `begun` is told of each process, and `tell` of each line of its standard
     error. While another `live` has the records, as that of a `serve` that was killed has for a moment, it is waited."""
     last, has_told = time.monotonic() + LOCK_SECONDS, False
@@ -163,11 +173,11 @@ async def begin(words, records, begun, tell):
 class Ended(Exception):
     """`live` ended before it answered."""
 
-    def __init__(self, status, errors):
+    def __init__(self, status: int, errors: collections.deque[str]) -> None:
         super().__init__(status)
         self.status, self.errors = status, "\n".join(errors)
 
-    def advice(self, plan, faults=""):
+    def advice(self, plan: str, faults: str = "") -> str:
         """What to do about it. `faults` says where and why the plan is refused, if that is known."""
         if self.status == PLAN:
             return f"the plan is refused: {faults or f'./lab plan < {plan} says where and why'}"

@@ -1,4 +1,7 @@
 """The sockets of a farm that stays up, round one `live`."""
+
+from __future__ import annotations
+
 import argparse
 import asyncio
 import contextlib
@@ -11,6 +14,7 @@ import socket
 import struct
 import subprocess
 import sys
+from typing import TYPE_CHECKING
 
 from . import running
 from .accepting import accept
@@ -28,11 +32,15 @@ from .folder import (
     program,
     socket_path,
 )
-from .ports import found_in, ports_told, users_in, wiring_in
+from .ports import Wiring, found_in, ports_told, users_in, wiring_in
 from .reports import Reports, open_streams
 from .rooms import RECORD_ROOM, ROOM, Needed, add_rooms
-from .speakers import UNANSWERED, Client, Operator, Speaker, shown, without_tag
+from .speakers import UNANSWERED, Asked, Client, Operator, Speaker, shown, without_tag
 from .versions import add_version
+
+if TYPE_CHECKING:
+    from .running import Live
+    from .speakers import Asked
 
 # How long a farm may take to answer what waits when it is stopped.
 STOP_SECONDS = 60
@@ -55,15 +63,25 @@ PEER = struct.Struct("@3i")
 class Server:
     """A farm, its speakers and their sockets."""
 
-    def __init__(self, words, reports):
+    def __init__(self, words: argparse.Namespace, reports: Reports) -> None:
         self.words, self.reports, self.folder = words, reports, Folder(words.DIR, words.sync)
         self.plan = self.folder.plan_to_run(words.PLAN)
-        self.live, self.is_up, self.is_stopping, self.is_proved = None, False, False, True
+        self.live: running.Live | None = None
+        self.is_up, self.is_stopping, self.is_proved = False, False, True
         # set while lines are handed on, or refused since the farm is stopped
         self.goes = asyncio.Event()
-        self.starts, self.speakers, self.accepting, self.wirings = running.Starts(), {}, [], {}
+        self.starts = running.Starts()
+        self.speakers: dict[str, Speaker] = {}
+        self.operator: Operator
+        self.accepting: list[asyncio.Task[None]] = []
+        self.wirings: dict[str, Wiring | None] = {}
 
-    def prepare(self):
+    def current_live(self) -> running.Live:
+        """The run of `live` that is there once the farm is up."""
+        assert self.live, "it was begun"
+        return self.live
+
+    def prepare(self) -> None:
         """Takes the sockets away that a killed `serve` has left, and sees that each user has his group. A plan that can't be
         read is left to `live`."""
         names = [name for users in users_in(self.plan) for name in users]
@@ -72,12 +90,12 @@ class Server:
                 self.folder.remove_dead(socket_path(self.folder.path, name))
         self.groups_of(names)
 
-    def groups_of(self, users):
+    def groups_of(self, users: list[str]) -> list[int | None]:
         """The number of the group of each user's socket; none if no group was given."""
         it = self.words.group
         return [None if it is None else group_number(it, name) for name in users]
 
-    def call(self):
+    def call(self) -> list[str]:
         """The words of `live`."""
         it = self.words
         more = [
@@ -96,7 +114,7 @@ class Server:
         more += ["--sync"] if it.sync else []
         return [program("live"), *more, "--record", self.folder.records, "--resume", self.plan]
 
-    def open(self, users):
+    def open(self, users: list[str]) -> None:
         """A socket for each user and for the operator. No socket is there before it is known that each has its group."""
         if OPERATOR in users:
             raise Refused(
@@ -104,13 +122,14 @@ class Server:
             )
         groups = self.groups_of(users)
         self.speakers = {name: Speaker(name) for name in users}
-        self.speakers[OPERATOR] = Operator(OPERATOR, len(users))
+        self.operator = Operator(OPERATOR, len(users))
+        self.speakers[OPERATOR] = self.operator
         for speaker, group in zip(self.speakers.values(), groups):
             self.open_socket(speaker, self.words.mode, group)
         self.open_socket(self.speakers[OPERATOR], 0o600, None)
 
-    def open_socket(self, speaker, mode, group):
-        async def serve(reader, writer):
+    def open_socket(self, speaker: Speaker, mode: int, group: int | None) -> None:
+        async def serve(reader: asyncio.StreamReader, writer: asyncio.StreamWriter) -> None:
             client = Client(speaker, reader, writer)
             who = self.peer(writer) if speaker.name == OPERATOR else None
             if who:
@@ -123,7 +142,7 @@ class Server:
             if who:
                 self.reports.say(f"serve: {who} has left the operator's socket")
 
-        def refused(error):
+        def refused(error: OSError) -> None:
             self.reports.say(f"serve: a connection of {speaker.name} can't be let in: {error.strerror}")
 
         one = self.folder.listen(speaker.name, mode, group)
@@ -131,14 +150,14 @@ class Server:
         self.accepting.append(asyncio.ensure_future(accept(one, serve, refused)))
 
     @staticmethod
-    def peer(writer):
+    def peer(writer: asyncio.StreamWriter) -> str:
         """The process and the account at the other end."""
         process, account, _ = PEER.unpack(
             writer.get_extra_info("socket").getsockopt(socket.SOL_SOCKET, socket.SO_PEERCRED, PEER.size)
         )
         return f"process {process} of {account_name(account)}"
 
-    async def send(self, speaker, client, line):
+    async def send(self, speaker: Speaker, client: Client, line: bytes) -> None:
         """Sends a client's line without its tag as his speaker's, as soon as there is room and `live` is up, if he is there
         still. A farm that is stopped takes no more lines."""
         tag, text = without_tag(line)
@@ -158,18 +177,20 @@ class Server:
         if speaker.asks_ports(text):
             self.say_ports(speaker, asked)
             return
-        speaker.sent(self.live.say(speaker.line(text)), asked)
+        speaker.sent(self.current_live().say(speaker.line(text)), asked)
 
-    def say_ports(self, speaker, asked):
+    def say_ports(self, speaker: Speaker, asked: Asked) -> None:
         """Answers a user's client which of his ports are joined: by the words of the switch, of which he gets those of his own
         ports. His domain isn't asked, so nothing is recorded."""
         if speaker.name not in self.wirings:
             self.wirings[speaker.name] = found_in(self.plan, speaker.name, wiring_in)
         wiring = self.wirings[speaker.name]
-        asked.client.waits += 1
+        assert asked.client, "a client has asked"
+        client: Client = asked.client
+        client.waits += 1
 
-        def hear(answer):
-            asked.client.waits -= 1
+        def hear(answer: bytes | None) -> tuple[Speaker, bytes, Asked]:
+            client.waits -= 1
             speaker.free(asked)
             text = (
                 UNANSWERED + shown(asked.text)
@@ -178,14 +199,14 @@ class Server:
             )
             return speaker, text + b"\n", asked
 
-        self.speakers[OPERATOR].watch(self.live, hear)
+        self.operator.watch(self.current_live(), hear)
 
-    def tell_all(self, text):
+    def tell_all(self, text: str) -> None:
         self.reports.say(f"serve: {text}")
         for speaker in self.speakers.values():
             speaker.tell(f"note: {text}\n".encode())
 
-    def hear_error(self, text):
+    def hear_error(self, text: str) -> None:
         """Hands on a line of the standard error of `live`: to the operator, and to whose domain is done again."""
         self.reports.say(text)
         if found := running.DONE_AGAIN.fullmatch(text):
@@ -195,13 +216,13 @@ class Server:
         if OPERATOR in self.speakers:
             self.speakers[OPERATOR].tell(f"note: {escaped(text)}\n".encode())
 
-    def give_up(self, number):
+    def give_up(self, number: int) -> None:
         """Names a line that `live` couldn't read to who sent it."""
         for speaker in self.speakers.values():
             if number in speaker.asked:
                 speaker.give_up([number])
 
-    def tell_progress(self, record, far):
+    def tell_progress(self, record: str, far: str) -> None:
         """Tells the users of a domain how far its record is done again. At the first start `live` has accepted the plan by
         now, so the sockets are opened then."""
         domains = users_in(self.plan)
@@ -218,7 +239,7 @@ class Server:
                     if name in self.speakers:
                         self.speakers[name].tell(f"note: what your machine did is done again: {far}\n".encode())
 
-    def say_rooms(self):
+    def say_rooms(self) -> None:
         """Says what the rooms of all domains may take, beside what is there. Of a plan that can't be read nothing is said."""
         domains, rooms = len(users_in(self.plan)), (self.words.room or ROOM, self.words.record_room or RECORD_ROOM)
         if not domains:
@@ -228,10 +249,10 @@ class Server:
             for text in (needed.told(), *needed.warnings()):
                 self.reports.say(f"serve: {text}")
 
-    async def hear(self):
+    async def hear(self) -> None:
         """Hands on what `live` says until its output ends. What a speaker is told at once is told in one piece."""
-        while lines := await self.live.some():
-            told = {}
+        while lines := await self.current_live().some():
+            told: dict[Speaker, list[tuple[bytes, Asked | None]]] = {}
             for line in lines:
                 name = OPERATOR if line.startswith(b"!") else line.partition(b" ")[0].decode(errors="replace")
                 speaker = self.speakers.get(name)
@@ -247,15 +268,15 @@ class Server:
                 speaker.tell_answers(answers)
                 speaker.rest()
 
-    async def watch(self):
+    async def watch(self) -> None:
         """Ends a `live` that answers nothing any more, so that it is started again."""
         pause = self.words.patience / WATCHES
         while True:
             await asyncio.sleep(pause)
             live = self.live
-            if not self.is_up or self.is_stopping:
+            if live is None or not self.is_up or self.is_stopping:
                 continue
-            is_answered = self.speakers[OPERATOR].watch(live)
+            is_answered = self.operator.watch(live)
             for _ in range(WATCHES):
                 await asyncio.sleep(pause)
                 if is_answered() or live is not self.live or self.is_stopping:
@@ -264,14 +285,14 @@ class Server:
                 self.tell_all(f"the farm has answered nothing for {self.words.patience:g} seconds")
                 live.kill()
 
-    async def look_for_folder(self):
+    async def look_for_folder(self) -> None:
         """Stops the farm when its folder was removed: nobody can come to its sockets any more, and its records are gone."""
         while not self.folder.is_removed():
             await asyncio.sleep(LOOK_SECONDS)
         self.tell_all(f"{self.folder.path} was removed, so the farm ends")
         self.end()
 
-    async def begin(self):
+    async def begin(self) -> None:
         """Starts `live`, opens the sockets if they aren't open yet, and says to whom lines go."""
         self.is_proved = await asyncio.to_thread(is_proved, "live")
         self.live, users = await running.begin(self.call(), self.folder.records, self.begun, self.hear_error)
@@ -286,14 +307,14 @@ class Server:
         self.is_up = True
         self.goes.set()
         if self.is_stopping:
-            self.live.say(b"!stop\n")
+            self.current_live().say(b"!stop\n")
 
-    def begun(self, live):
+    def begun(self, live: Live) -> None:
         self.live = live
         if self.is_stopping:
             live.kill()
 
-    async def keep(self):
+    async def keep(self) -> int:
         """Keeps the farm up until it is stopped; the status."""
         try:
             await self.begin()
@@ -308,7 +329,7 @@ class Server:
             speaker.tell(b"note: the farm is up\n")
         while True:
             await self.hear()
-            status = await self.live.end()
+            status = await self.current_live().end()
             self.is_up = False
             if not self.is_stopping:
                 self.goes.clear()
@@ -321,7 +342,7 @@ class Server:
             await self.go_on(running.how(status))
             self.tell_all("the farm goes on")
 
-    async def go_on(self, how):
+    async def go_on(self, how: str) -> None:
         """Starts `live` again, as often as is allowed. `how` tells why it ended."""
         has_started = True
         while (pause := self.starts.another(has_started)) is not None:
@@ -341,7 +362,7 @@ class Server:
             f"{self.folder.records}. Look above for what live said, and start serve again after that"
         )
 
-    def end(self):
+    def end(self) -> None:
         """Stops the farm when all lines that wait are answered. A farm that isn't up yet, or doesn't end in time, is ended at
         once."""
         if self.is_stopping:
@@ -349,29 +370,29 @@ class Server:
         self.is_stopping = True
         self.goes.set()
         if self.is_up:
-            self.live.say(b"!stop\n")
+            self.current_live().say(b"!stop\n")
             asyncio.get_running_loop().call_later(STOP_SECONDS, self.kill)
         else:
             self.kill()
 
-    def kill(self):
+    def kill(self) -> None:
         if self.live is not None:
             self.live.kill()
 
-    def stop(self):
+    def stop(self) -> None:
         """Stops the farm by a signal; the second time at once."""
         if self.is_stopping:
             self.kill()
         self.end()
 
-    def close_sockets(self):
+    def close_sockets(self) -> list[asyncio.Task[None]]:
         for task in self.accepting:
             task.cancel()
         self.folder.remove_sockets()
         closed, self.accepting, self.speakers = self.accepting, [], {}
         return closed
 
-    async def close(self):
+    async def close(self) -> None:
         """Takes the sockets away and lets the clients read what they were told."""
         self.kill()
         self.folder.remove_new_plan()
@@ -382,7 +403,7 @@ class Server:
         await asyncio.gather(*closed, return_exceptions=True)
 
 
-async def run(words, reports):
+async def run(words: argparse.Namespace, reports: Reports) -> int:
     server = Server(words, reports)
     loop = asyncio.get_running_loop()
     for one in (signal.SIGTERM, signal.SIGINT, signal.SIGHUP):
@@ -406,7 +427,7 @@ async def run(words, reports):
         await server.close()
 
 
-def plan_faults(path):
+def plan_faults(path: str) -> str:
     """Where and why a plan is refused, as `lab plan` says it on a line; nothing if the lab isn't built."""
     with contextlib.suppress(OSError, subprocess.TimeoutExpired), open(path, "rb") as plan:
         if is_built("lab"):
@@ -418,13 +439,13 @@ def plan_faults(path):
     return ""
 
 
-def seconds_of(word):
+def seconds_of(word: str) -> float:
     if not re.fullmatch(r"[0-9]{1,6}(\.[0-9]+)?", word) or not float(word):
         raise argparse.ArgumentTypeError("a number of seconds is wanted, such as 30")
     return float(word)
 
 
-def words_of(given):
+def words_of(given: list[str]) -> argparse.Namespace:
     it = argparse.ArgumentParser(prog="serve", description="Keeps a farm up and gives each of its users a socket.")
     add_version(it)
     it.add_argument("PLAN", help="the file of the plan")
@@ -449,7 +470,7 @@ def words_of(given):
     return it.parse_args(given)
 
 
-def main(given):
+def main(given: list[str]) -> int:
     open_streams()
     words = words_of(given)
     logging.getLogger("asyncio").setLevel(logging.CRITICAL)

@@ -1,10 +1,16 @@
 """The sheet that a student gets: who he is, what he has, and his first lines."""
+
+from __future__ import annotations
+
 import os
 import shlex
 import socket
-from typing import NamedTuple
+from typing import TYPE_CHECKING, NamedTuple
 
 from .folder import TOP
+
+if TYPE_CHECKING:
+    from .plans import Machine
 
 SHEET = """{person}
 
@@ -66,13 +72,13 @@ class Ways(NamedTuple):
     host: str | None
 
 
-def installed(*path):
+def installed(*path: str) -> str | None:
     """The path of a file below the folder where all was installed; none if it isn't there."""
     it = os.path.join(os.path.dirname(os.path.dirname(TOP)), *path)
     return it if os.path.exists(it) else None
 
 
-def ways_of(mode):
+def ways_of(mode: int) -> Ways:
     """How students of this machine come in, if their sockets have this mode. Over a network they come as accounts of their own,
     so these must have a right to the sockets."""
     return Ways(
@@ -82,16 +88,16 @@ def ways_of(mode):
     )
 
 
-def sheet_path(course, name):
+def sheet_path(course: str, name: str) -> str:
     """Where a student's sheet is."""
     return os.path.join(course, "sheets", f"{name}.txt")
 
 
-def count(number, thing):
+def count(number: int, thing: str) -> str:
     return f"{number} {thing}" + ("" if number == 1 else "s")
 
 
-def others(machine):
+def others(machine: Machine) -> str:
     """How a program is loaded into each node but the first. A host that another node had is taken away from it before."""
     told = (
         ["\nload and collect want the number of a host, whatever node it is joined with.\n"]
@@ -110,7 +116,7 @@ def others(machine):
     return "".join(told)
 
 
-def sheet(person, name, machine, folder, ways):
+def sheet(person: str, name: str, machine: Machine, folder: str, ways: Ways) -> str:
     """The sheet of one student."""
     what = (
         f"{count(machine.nodes, 'node')} with {machine.memory} bytes of memory, {count(machine.hosts, 'host')}, "

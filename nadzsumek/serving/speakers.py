@@ -1,11 +1,19 @@
 """Who speaks to `live`: the users and the operator, each with his clients and the lines that aren't answered yet."""
+
+from __future__ import annotations
+
 import asyncio
 import re
 import socket
+from collections.abc import Awaitable, Callable
+from typing import TYPE_CHECKING
 
 from .lines import MOST_LINE, PIECE, Lines
 from .pace import Pace
 from .verbs import goes_on
+
+if TYPE_CHECKING:
+    from .running import Live
 
 # So many lines of a speaker may be on their way at once. `live` keeps 1,024 lines for a domain, which has four users at
 # most, so no line of a client is refused as too many.
@@ -35,16 +43,22 @@ UNANSWERED = b"error: not answered, send it again if you want it: "
 TAG = re.compile(rb"#[0-9]{1,9} ")
 
 
+# What is called with an answer, or with none if there will be none.
+Hear = Callable[[bytes | None], tuple["Speaker", bytes, "Asked"]]
+
+
 class Asked:
     """A line on its way: its text, who sent it (nobody if `serve` itself asks), as how many lines it counts, the tag that
     stood before it, and what is called with its answer, or with none if there will be none: that makes of it what a speaker is
     told, and of which line."""
 
-    def __init__(self, text, client, size, tag=b"", hear=None):
+    def __init__(
+        self, text: bytes, client: Client | None, size: int, tag: bytes = b"", hear: Hear | None = None
+    ) -> None:
         self.text, self.client, self.size, self.tag, self.hear = text, client, size, tag, hear
 
 
-def without_tag(line):
+def without_tag(line: bytes) -> tuple[bytes, bytes]:
     """The tag of a client's line, and the line without it. One that is too long keeps its tag, so that it stays too long."""
     found = TAG.match(line)
     tag = found[0] if found else b""
@@ -54,22 +68,23 @@ def without_tag(line):
 class Speaker:
     """A user, with his name before each of his lines."""
 
-    def __init__(self, name, most=MOST_ON_WAY):
+    def __init__(self, name: str, most: int = MOST_ON_WAY) -> None:
         self.name, self.most = name, most
         self.prefix = name.encode() + b" "
-        self.clients, self.asked = set(), {}
+        self.clients: set[Client] = set()
+        self.asked: dict[int, Asked] = {}
         self.room, self.turn = asyncio.Semaphore(most), asyncio.Lock()
         self.half_lines = Pace(HALF_AT_ONCE, HALF_A_SECOND)
 
-    def line(self, text):
+    def line(self, text: bytes) -> bytes:
         """The line of `live` for a client's line."""
         return self.prefix + text + b"\n"
 
-    def told(self, answer):
+    def told(self, answer: bytes) -> bytes:
         """What a client is told of an answer."""
         return answer[len(self.prefix) :]
 
-    async def enter(self, text, client, tag):
+    async def enter(self, text: bytes, client: Client, tag: bytes) -> Asked:
         """Waits until one more line may be on its way. Clients of one speaker take turns."""
         size = min(1 + len(text) // BYTES_OF_ONE, self.most)
         async with self.turn:
@@ -77,35 +92,35 @@ class Speaker:
                 await self.room.acquire()
         return Asked(text, client, size, tag)
 
-    def stops(self, _):
+    def stops(self, _: bytes) -> bool:
         """Whether a line stops the farm."""
         return False
 
-    def news(self, _):
+    def news(self, _: bytes) -> bytes | None:
         """What a line says to all users; none if it is another line."""
         return None
 
-    def asks_ports(self, text):
+    def asks_ports(self, text: bytes) -> bool:
         """Whether a line asks which ports are joined."""
         return text.removesuffix(b"\r") == PORTS
 
-    def sent(self, number, asked):
+    def sent(self, number: int, asked: Asked) -> None:
         """The line is that of this number among the lines of this run of `live`."""
         self.asked[number] = asked
         if asked.client is not None:
             asked.client.waits += 1
 
-    def answered(self, answer):
+    def answered(self, answer: bytes) -> Asked | None:
         """The line that is answered, none by a note: an error has its number, and all others are answered in their order. By
         the last line of its answer it is taken off."""
         told = self.told(answer)
         if told.startswith(NOTE):
             return None
         error = re.fullmatch(rb"error (\d+) \w+", told)
-        number = int(error[1]) if error else next(iter(self.asked), None)
+        number = int(error[1]) if error else next(iter(self.asked), 0)
         return self.asked.get(number) if goes_on(told.decode(errors="replace")) else self.take(number)
 
-    def take(self, number):
+    def take(self, number: int) -> Asked | None:
         asked = self.asked.pop(number, None)
         if asked is not None:
             self.free(asked)
@@ -113,16 +128,16 @@ class Speaker:
                 asked.client.waits -= 1
         return asked
 
-    def free(self, asked):
+    def free(self, asked: Asked) -> None:
         """The line is no longer on its way."""
         for _ in range(asked.size):
             self.room.release()
 
-    def tell(self, text):
+    def tell(self, text: bytes) -> None:
         for client in [*self.clients]:
             client.tell(text)
 
-    def tell_answers(self, answers):
+    def tell_answers(self, answers: list[tuple[bytes, Asked | None]]) -> None:
         """Tells each client its share of these lines in one piece. With each is given what was asked, or none if it is a
         note."""
         if not any(client.has_tags for client in self.clients) and not any(asked and asked.tag for _, asked in answers):
@@ -131,13 +146,13 @@ class Speaker:
         for client in [*self.clients]:
             client.tell(b"".join(client.share(text, asked) for text, asked in answers))
 
-    def forget(self):
+    def forget(self) -> None:
         """Names the lines that weren't answered to the clients."""
         self.give_up([*self.asked])
 
-    def give_up(self, numbers):
+    def give_up(self, numbers: list[int]) -> None:
         """Names the lines of these numbers, which won't be answered any more, to the clients."""
-        lost = [self.take(number) for number in numbers]
+        lost = [it for number in numbers if (it := self.take(number))]
         self.tell_answers([(UNANSWERED + shown(it.text) + b"\n", it) for it in lost])
         for it in lost:
             if it.hear:
@@ -146,13 +161,13 @@ class Speaker:
                 speaker.rest()
         self.rest()
 
-    def rest(self):
+    def rest(self) -> None:
         """Ends the clients that send nothing more and wait for nothing."""
         for client in [*self.clients]:
             client.rest()
 
 
-def shown(text):
+def shown(text: bytes) -> bytes:
     """A line as its user is told of it, cut if it is long."""
     return text[:MOST_TOLD] + (b".." if len(text) > MOST_TOLD else b"")
 
@@ -161,38 +176,38 @@ class Operator(Speaker):
     """The operator, whose lines and answers begin with an exclamation mark. `serve` asks as he does whether `live` still
     answers."""
 
-    def __init__(self, name, users):
+    def __init__(self, name: str, users: int) -> None:
         super().__init__(name, MOST_OF_OPERATOR)
         self.prefix, self.users, self.heard = b"!", users, 0
 
-    def line(self, text):
+    def line(self, text: bytes) -> bytes:
         return (b"" if text.startswith(b"!") else b"!") + text + b"\n"
 
-    def told(self, answer):
+    def told(self, answer: bytes) -> bytes:
         return answer
 
-    def words(self, text):
+    def words(self, text: bytes) -> list[bytes]:
         """The words of a line as `live` gets it."""
         return self.line(text)[:-1].removesuffix(b"\r").split(b" ")
 
-    def stops(self, text):
+    def stops(self, text: bytes) -> bool:
         return self.words(text) == [b"!stop"]
 
-    def news(self, text):
+    def news(self, text: bytes) -> bytes | None:
         line = self.line(text)[:-1].removesuffix(b"\r")
         return line.removeprefix(TELL) if line.startswith(TELL) else None
 
-    def asks_ports(self, _):
+    def asks_ports(self, _: bytes) -> bool:
         return False
 
-    def watch(self, live, hear=None):
+    def watch(self, live: Live, hear: Hear | None = None) -> Callable[[], bool]:
         """Asks whether `live` still answers, and returns how that is seen: the question is asked no longer. `hear` is called with
         the answer."""
         number = live.say(WATCHED)
         self.asked[number] = Asked(WATCHED[:-1], None, 0, hear=hear)
         return lambda: number not in self.asked
 
-    def answered(self, answer):
+    def answered(self, answer: bytes) -> Asked | None:
         """`!users` has a line for each user; `!restart` is answered when its domain has begun anew."""
         words, is_last = answer.split(b" "), True
         if words[:2] == [b"!", b"error"]:
@@ -201,10 +216,10 @@ class Operator(Speaker):
             self.heard = (self.heard + 1) % self.users
             is_last = self.heard == 0
         wanted = words[:2] if words[0] == b"!restart" else words[:1]
-        number = next((number for number, asked in self.asked.items() if self.words(asked.text) == wanted), None)
+        number = next((number for number, asked in self.asked.items() if self.words(asked.text) == wanted), 0)
         return self.take(number) if is_last else self.asked.get(number)
 
-    def forget(self):
+    def forget(self) -> None:
         self.heard = 0
         super().forget()
 
@@ -212,12 +227,12 @@ class Operator(Speaker):
 class Client:
     """One connection of a speaker."""
 
-    def __init__(self, speaker, reader, writer):
+    def __init__(self, speaker: Speaker, reader: asyncio.StreamReader, writer: asyncio.StreamWriter) -> None:
         self.speaker, self.writer = speaker, writer
         self.lines = Lines(reader, MOST_LINE, speaker.half_lines)
         self.waits, self.has_ended, self.has_tags = 0, False, False
 
-    def tell(self, text):
+    def tell(self, text: bytes) -> None:
         """Hands over what the client is to read; if it has let too much wait, it is cut off."""
         transport = self.writer.transport
         if self.is_gone() or not text:
@@ -227,7 +242,7 @@ class Client:
             return
         self.writer.write(text)
 
-    def share(self, text, asked):
+    def share(self, text: bytes, asked: Asked | None) -> bytes:
         """What this client gets of a line of an answer: all of a note; what answers its own line, behind the line's tag; and
         what answers others, unless that line had a tag or this client has sent one."""
         if asked is None:
@@ -236,21 +251,21 @@ class Client:
             return asked.tag + text
         return b"" if asked.client is None or asked.tag or self.has_tags else text
 
-    async def read_no_more(self):
+    async def read_no_more(self) -> None:
         """Lets the client send nothing more. What is there is taken: else it couldn't read what it is told."""
         self.writer.get_extra_info("socket").shutdown(socket.SHUT_RD)
         while await self.lines.reader.read(PIECE):
             pass
 
-    def is_gone(self):
+    def is_gone(self) -> bool:
         """It was cut off, or has vanished: what it sent before isn't done any more."""
         return self.writer.transport.is_closing()
 
-    def rest(self):
+    def rest(self) -> None:
         if self.has_ended and self.waits == 0:
             self.writer.close()
 
-    async def serve(self, send):
+    async def serve(self, send: Callable[[Speaker, Client, bytes], Awaitable[None]]) -> None:
         """Sends each line of the client until it ends, and keeps it until all of them are answered."""
         if len(self.speaker.clients) >= MOST_CLIENTS:
             self.tell(b"error: %d connections are open, close one of them first\n" % MOST_CLIENTS)

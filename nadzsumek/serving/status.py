@@ -1,4 +1,7 @@
 """What the students of a class have done: as the operator is told of them, and as their records say."""
+
+from __future__ import annotations
+
 import contextlib
 import os
 import socket
@@ -22,7 +25,7 @@ OFF, SILENT = "off", "no answer"
 MIB = 1 << 20
 
 
-def operators_stream(folder, seconds=SECONDS):
+def operators_stream(folder: str, seconds: int = SECONDS) -> socket.socket:
     """A connection with the operator's socket of a farm, for which nothing takes longer than this."""
     stream = socket.socket(socket.AF_UNIX, socket.SOCK_STREAM)
     try:
@@ -34,7 +37,7 @@ def operators_stream(folder, seconds=SECONDS):
         raise
 
 
-def ask_operator(folder, line, seconds=SECONDS):
+def ask_operator(folder: str, line: str, seconds: int = SECONDS) -> list[str]:
     """What the operator of a farm is answered, line by line."""
     with operators_stream(folder, seconds) as stream:
         stream.sendall(line.encode() + b"\n")
@@ -43,16 +46,16 @@ def ask_operator(folder, line, seconds=SECONDS):
             return [it.rstrip("\n") for it in lines]
 
 
-def is_number(word):
+def is_number(word: str) -> bool:
     return word.isascii() and word.isdecimal()
 
 
-def used_of(recorded, limit):
+def used_of(recorded: int, limit: int) -> str:
     """How much of a domain's limit its events are: `full` if all, and `little` if a node can't go on with what is left."""
     return "full" if recorded >= limit else "little" if limit - recorded < BURST else f"{100 * recorded / limit:.1f}%"
 
 
-def row_of(folder, name, told):
+def row_of(folder: str, name: str, told: list[str] | str) -> tuple[str, ...]:
     """A student's row, of the words that `!users` has of him, or of why there are none."""
     farm, fault = os.path.basename(folder), last_fault(os.path.join(folder, "records"), name)
     if isinstance(told, str):
@@ -65,23 +68,23 @@ def row_of(folder, name, told):
     return (name, farm, str(lines), str(recorded), used_of(recorded, limit), room, records, " ".join(now), fault)
 
 
-def told_of(words):
+def told_of(words: list[str]) -> list[str] | str:
     """The words after a user's name in an answer to `!users`, if they have the form that they should have."""
     numbers = words[: WORDS - 1]
     fits = len(words) >= WORDS and all(is_number(it) for it in numbers) and int(numbers[-1]) > 0
     return words if fits else SILENT
 
 
-def memory_told(folder, answers):
+def memory_told(folder: str, answers: list[str]) -> str | None:
     """What is said of the memory that a farm has, and that its rooms may take; none if it wasn't told."""
-    words = next((it.split(" ") for it in answers if it.startswith("!memory ")), [])
+    words: list[str] = next((it.split(" ") for it in answers if it.startswith("!memory ")), [])
     if len(words) < 3 or not all(is_number(it) for it in words[1:3]):
         return None
     has, may = (f"{int(it) / MIB:.0f} MiB" for it in words[1:3])
     return f"{os.path.basename(folder)} has {has} of memory, and its rooms may take {may}"
 
 
-def told_by(folder, names):
+def told_by(folder: str, names: list[str]) -> tuple[list[tuple[str, ...]], str | None]:
     """The rows of a farm's students, and what is said of its memory; none of that if it doesn't say so."""
     answers, without = [], OFF
     if is_locked(folder):
@@ -94,7 +97,7 @@ def told_by(folder, names):
     return [row_of(folder, name, told.get(name, without)) for name in names], memory_told(folder, answers)
 
 
-def table(rows):
+def table(rows: list[tuple[str, ...]]) -> list[str]:
     """Rows as lines with columns; numbers stand on the right."""
     rows = [HEAD, *(tuple(escaped(cell) for cell in row) for row in rows)]
     widths = [max(len(row[at]) for row in rows) for at in range(len(HEAD))]

@@ -1,4 +1,7 @@
 """All farms of a class as the children of one process, which runs until it is stopped, as a unit of systemd wants it."""
+
+from __future__ import annotations
+
 import fcntl
 import os
 import select
@@ -9,7 +12,7 @@ import time
 
 from .escapes import escaped
 from .folder import Refused, holder, is_locked, program
-from .kept import class_in
+from .kept import Kept, class_in
 from .upkeep import Start, is_up
 
 # What starts all farms that are off, and what starts those whose plan has changed since they were started, and new ones.
@@ -22,7 +25,7 @@ OFF_SECONDS = 30
 PAUSE = 0.05
 
 
-def is_class(number):
+def is_class(number: int) -> bool:
     """Whether a process is a `class`."""
     try:
         with open(f"/proc/{number}/cmdline", "rb") as it:
@@ -31,13 +34,13 @@ def is_class(number):
         return False
 
 
-def supervisor_of(course):
+def supervisor_of(course: str) -> int | None:
     """The number of the process that has all farms of a class as its children; none if there is none."""
     number = holder(course)
     return number if number is not None and is_class(number) else None
 
 
-def tell(course, how):
+def tell(course: str, how: signal.Signals) -> None:
     """Sends a signal to the supervisor of a class, if there is one."""
     number = supervisor_of(course)
     if number is not None:
@@ -49,7 +52,7 @@ class Awaited(Start):
 
     HOW = ALL
 
-    def done(self):
+    def done(self) -> tuple[bool, str]:
         seen = time.monotonic()
         if not is_locked(self.folder):
             tell(self.course, self.HOW)
@@ -76,11 +79,15 @@ class AwaitedChange(Awaited):
 class Supervisor:
     """The farms of a class, each with its `serve`."""
 
-    def __init__(self, course, more):
+    def __init__(self, course: str, more: list[str]) -> None:
         self.course, self.more = os.path.abspath(course), more
-        self.children, self.plans, self.begun, self.due, self.asked = {}, {}, {}, {}, set()
+        self.children: dict[str, subprocess.Popen[bytes]] = {}
+        self.plans: dict[str, tuple[int, int]] = {}
+        self.begun: dict[str, float] = {}
+        self.due: dict[str, float] = {}
+        self.asked: set[signal.Signals] = set()
         # the farms that are to be started as soon as they have ended
-        self.pending = set()
+        self.pending: set[str] = set()
         self.wakes, self.waking = os.pipe2(os.O_NONBLOCK | os.O_CLOEXEC)
         # before another process can see whom it may tell
         for it in (ALL, CHANGED, signal.SIGCHLD, *STOPPING):
@@ -88,7 +95,7 @@ class Supervisor:
         signal.set_wakeup_fd(self.waking, warn_on_full_buffer=False)
         self.lock()
 
-    def lock(self):
+    def lock(self) -> None:
         """Has the class for itself, as far as supervisors go."""
         self.file = os.open(os.path.join(self.course, "lock"), os.O_RDWR | os.O_CREAT | os.O_NOFOLLOW, 0o600)
         try:
@@ -98,15 +105,15 @@ class Supervisor:
         os.ftruncate(self.file, 0)
         os.pwrite(self.file, f"{os.getpid()}\n".encode(), 0)
 
-    def say(self, text):
+    def say(self, text: str) -> None:
         print(f"class: {escaped(text)}", file=sys.stderr, flush=True)
 
-    def plan(self, farm):
+    def plan(self, farm: str) -> tuple[int, int]:
         """Which plan a farm has: each that is written is another file."""
         it = os.stat(os.path.join(farm, "plan.toml"))
         return it.st_ino, it.st_mtime_ns
 
-    def start(self, farm, kept):
+    def start(self, farm: str, kept: Kept) -> None:
         """Starts a farm, unless somebody else has it. One that is just ending is started when it has ended."""
         self.due.pop(farm, None)
         if farm in self.children:
@@ -122,7 +129,7 @@ class Supervisor:
         # pylint: disable-next=consider-using-with
         self.children[farm] = subprocess.Popen(call, stdin=subprocess.DEVNULL, start_new_session=True)
 
-    def look(self):
+    def look(self) -> None:
         """Takes off the farms that have ended. One that wasn't stopped is started again after a while."""
         for farm, process in [*self.children.items()]:
             status = process.poll()
@@ -137,7 +144,7 @@ class Supervisor:
                 )
                 self.due[farm] = time.monotonic() + AGAIN_SECONDS
 
-    def go_on(self):
+    def go_on(self) -> None:
         """Starts what is to be started now."""
         kept, asked, self.asked = class_in(self.course), self.asked, set()
         self.due = {farm: when for farm, when in self.due.items() if farm in kept.farms}
@@ -147,17 +154,17 @@ class Supervisor:
             if ALL in asked or is_due or (CHANGED in asked and is_changed):
                 self.start(farm, kept)
 
-    def wait(self):
+    def wait(self) -> None:
         """Waits until a signal comes or a farm is due."""
         pause = max(0, min(self.due.values()) - time.monotonic()) if self.due else None
         if select.select([self.wakes], [], [], pause)[0]:
             self.asked |= {signal.Signals(it) for it in os.read(self.wakes, 4096)}
 
-    def is_removed(self):
+    def is_removed(self) -> bool:
         """Whether somebody has removed the folder of the class. The farms end by themselves then."""
         return os.fstat(self.file).st_nlink == 0
 
-    def run(self):
+    def run(self) -> int:
         """Keeps the farms up until this process is stopped, and then stops them; the status."""
         self.asked |= {ALL}
         while not self.asked & {*STOPPING} and not self.is_removed():

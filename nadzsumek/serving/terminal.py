@@ -1,4 +1,7 @@
 """A terminal for one user of a farm, or for its operator."""
+
+from __future__ import annotations
+
 import argparse
 import collections
 import contextlib
@@ -14,7 +17,7 @@ import time
 from .answers import Due, Loading, refusal, with_meaning
 from .completion import complete_with
 from .connections import NO_FARM, REFUSED, opened
-from .escapes import escaped
+from .escapes import escaped, set_errors
 from .folder import OPERATOR, Refused
 from .kept import place_of
 from .loads import Hindered, check_load
@@ -52,17 +55,18 @@ class Gone(Exception):
 class Terminal:
     """A connection, whose answers are printed by a thread of their own as they come."""
 
-    def __init__(self, folder, name, is_person, is_checked):
+    def __init__(self, folder: str, name: str, is_person: bool, is_checked: bool) -> None:
         self.stream, self.folder, self.name, self.is_person = opened(folder, name), folder, name, is_person
         self.ports, self.wiring, self.is_checked = ports_of(folder, name), wiring_of(folder, name), is_checked
-        self.due, self.status, self.stops, self.is_unread = collections.deque(), 0, False, False
+        self.due: collections.deque[Due] = collections.deque()
+        self.status, self.stops, self.is_unread = 0, False, False
         self.news, self.has_ended, self.at_prompt = threading.Condition(), False, False
         self.interrupts, self.is_sending, self.is_noticed = 0, False, threading.Event()
         self.prompt = f"{escaped(name)}> "
         self.reader = threading.Thread(target=self.read, daemon=True)
         self.reader.start()
 
-    def show(self, text):
+    def show(self, text: str) -> None:
         """Prints a line. What is typed at the prompt is shown again below it."""
         try:
             if self.at_prompt:
@@ -74,7 +78,7 @@ class Terminal:
             self.is_unread = True
             raise
 
-    def read(self):
+    def read(self) -> None:
         """Shows the answers until the connection ends, and then calls the person away from the prompt."""
         try:
             with self.stream.makefile("rb") as lines:
@@ -87,10 +91,10 @@ class Terminal:
             self.has_ended = True
             self.news.notify_all()
         while self.at_prompt:
-            signal.pthread_kill(threading.main_thread().ident, signal.SIGUSR1)
+            signal.pthread_kill(threading.main_thread().ident or 0, signal.SIGUSR1)
             time.sleep(0.1)
 
-    def hear(self, answer):
+    def hear(self, answer: str) -> None:
         with self.news:
             due = next((it for it in self.due if it.is_answered_by(answer)), None)
             for text in due.told(answer) if due else with_meaning(None, answer):
@@ -104,7 +108,7 @@ class Terminal:
                     self.status = REFUSED
                 self.news.notify_all()
 
-    def send(self, lines):
+    def send(self, lines: list[str]) -> None:
         """Sends the lines of one verb, whole ones always. Ctrl-C leaves out what isn't sent yet."""
         loading = Loading() if len(lines) > 1 else None
         for at in range(0, len(lines), AT_ONCE):
@@ -118,7 +122,7 @@ class Terminal:
             self.stream.sendall("".join(f"{line}\n" for line in piece).encode("utf-8", "surrogateescape"))
             self.is_sending = False
 
-    def do(self, line):
+    def do(self, line: str) -> bool:
         """Does one line; false if it is the last."""
         first, _, words = split(self.name, line, self.ports)
         self.stops = first == "stop"
@@ -133,7 +137,7 @@ class Terminal:
                 self.send(lines)
         return True
 
-    def may_load(self, host, file):
+    def may_load(self, host: int, file: str) -> bool:
         """Whether a program is sent: if it would boot nothing, the person is asked what to do first."""
         self.settle(FILE_SECONDS)
         try:
@@ -152,7 +156,7 @@ class Terminal:
             self.show(f"{why.advice}.")
             return self.agrees("load even so? (y/n) ")
 
-    def agrees(self, question):
+    def agrees(self, question: str) -> bool:
         """Whether the person answers a question by yes."""
         before, self.prompt, lines = self.prompt, question, readline.get_current_history_length()
         try:
@@ -167,26 +171,26 @@ class Terminal:
                 # it is no line that anybody wants back
                 readline.remove_history_item(lines)
 
-    def settle(self, seconds):
+    def settle(self, seconds: float | int) -> None:
         """Waits until all lines are answered, so long at most."""
         with self.news:
             self.news.wait_for(lambda: self.has_ended or not self.due, seconds)
 
-    def wait(self):
+    def wait(self) -> None:
         """Waits a little, so that the answers stand before what comes next."""
         self.settle(PROMPT_SECONDS if self.is_person else FILE_SECONDS)
         if not self.is_person:
             with self.news:
                 self.due.clear()
 
-    def ask(self):
+    def ask(self) -> str | None:
         """The next line of the person, or of the input; none at the end."""
         self.wait()
         if not self.is_person:
             return None if self.has_ended else sys.stdin.readline() or None
         return self.typed()
 
-    def typed(self):
+    def typed(self) -> str | None:
         """What the person types at the prompt; none at the end."""
         with self.news:
             self.at_prompt = not self.has_ended
@@ -198,7 +202,7 @@ class Terminal:
         finally:
             self.at_prompt = False
 
-    def go_on(self):
+    def go_on(self) -> bool:
         """Does the next line; false if it was the last."""
         line = self.ask()
         self.interrupts = 0
@@ -213,7 +217,7 @@ class Terminal:
             print(f"error: {escaped(str(wrong), LINES)}", file=sys.stderr, flush=True)
             return True
 
-    def run(self):
+    def run(self) -> int:
         """Does lines until the input or the connection ends; the status."""
         goes_on = True
         while goes_on:
@@ -227,7 +231,7 @@ class Terminal:
                 goes_on = False
         return max(self.status, self.end())
 
-    def end(self):
+    def end(self) -> int:
         """Sends nothing more, and waits for the answers that are due."""
         self.interrupts = 0
         if self.stops:
@@ -245,28 +249,28 @@ class Terminal:
             return 0
         return 1
 
-    def join(self, seconds):
+    def join(self, seconds: float) -> None:
         """Waits for the end of the connection, so long at most, or until Ctrl-C."""
         end = time.monotonic() + seconds
         while self.reader.is_alive() and not self.interrupts and time.monotonic() < end:
             self.reader.join(0.1)
 
-    def called_away(self, *_):
+    def called_away(self, *_: object) -> None:
         """The reader has sent a signal: the connection has ended."""
         if self.at_prompt:
             raise Gone
 
-    def watch(self, signals):
+    def watch(self, signals: int) -> None:
         """Wakes the prompt until it has noticed Ctrl-C: what reads a line passes over a signal that comes after the prompt is
         shown and before it waits for a key, and would notice it at the next key alone."""
         while numbers := os.read(signals, AT_ONCE):
             for _ in range(MOST_WAKES if signal.SIGINT in numbers else 0):
                 if self.is_noticed.wait(NOTICED_SECONDS):
                     break
-                signal.pthread_kill(threading.main_thread().ident, signal.SIGUSR2)
+                signal.pthread_kill(threading.main_thread().ident or 0, signal.SIGUSR2)
             self.is_noticed.clear()
 
-    def interrupt(self, *_):
+    def interrupt(self, *_: object) -> None:
         """Ctrl-C. At the prompt it drops what is typed. Else it is noted, so that nothing is left half done; if lines can't
         be sent, the next one ends the terminal."""
         self.is_noticed.set()
@@ -277,7 +281,7 @@ class Terminal:
             raise Gone
 
 
-def at_terminal(terminal, folder):
+def at_terminal(terminal: Terminal, folder: str) -> int:
     """Runs a terminal with completion and the history of earlier ones."""
     complete_with(folder, terminal.name)
     with contextlib.suppress(OSError):
@@ -298,7 +302,7 @@ def at_terminal(terminal, folder):
             readline.write_history_file(HISTORY)
 
 
-def words_of(given):
+def words_of(given: list[str]) -> argparse.Namespace:
     """The words. After DIR any word is a name, also if it begins with a hyphen."""
     it = argparse.ArgumentParser(
         prog="connect",
@@ -332,10 +336,10 @@ def words_of(given):
     return it.parse_args(given)
 
 
-def main(given):
+def main(given: list[str]) -> int:
     words = words_of(given)
-    sys.stdin.reconfigure(errors="surrogateescape")
-    sys.stdout.reconfigure(errors="backslashreplace")
+    set_errors(sys.stdin, "surrogateescape")
+    set_errors(sys.stdout, "backslashreplace")
     is_person = sys.stdin.isatty() and sys.stdout.isatty()
     try:
         folder, name = place_of(words.DIR, words.USER)

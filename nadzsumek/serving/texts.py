@@ -1,5 +1,8 @@
 """Texts in quotes, as `send` has them, and exercises too. `live` alone decides what a line of a user means (docs/LIVE.md). Here a text
 that was typed is put in quotes, and a terminal says what is wrong with one before it sends it."""
+
+from __future__ import annotations
+
 import re
 
 from .verbs import Wrong
@@ -11,7 +14,7 @@ WRITTEN = {meant: f"\\{letter}" for letter, meant in ESCAPES.items()}
 PIECE = re.compile(r'\\x[0-9a-fA-F]{2}|\\.|[^\\"]+|\\|"', re.DOTALL)
 
 
-def pieces_of(word):
+def pieces_of(word: str) -> list[str]:
     """The pieces of a text with quotes round it or without: escapes, and what is between them."""
     between = re.fullmatch(r'"((?:[^"\\]|\\.)*)"', word, re.DOTALL)
     if not between and word.startswith('"'):
@@ -25,12 +28,12 @@ def pieces_of(word):
     return pieces
 
 
-def in_quotes(word):
+def in_quotes(word: str) -> str:
     """A text that was typed, with quotes round it or without, in quotes."""
     return '"' + "".join('\\"' if it == '"' else it for it in pieces_of(word)) + '"'
 
 
-def bytes_meant(word):
+def bytes_meant(word: str) -> bytes:
     """The bytes that a text means, with quotes round it or without."""
     made = b""
     for it in pieces_of(word):
@@ -41,7 +44,7 @@ def bytes_meant(word):
     return made
 
 
-def quoted(text):
+def quoted(text: str) -> str:
     """A text in quotes that means these characters. Those that only control something are written as digits."""
     return (
         '"' + "".join(WRITTEN.get(it, it if it >= " " and it != "\x7f" else f"\\x{ord(it):02x}") for it in text) + '"'

@@ -1,10 +1,15 @@
 """How the farms of a class are started and stopped: all side by side, each with what became of it."""
+
+from __future__ import annotations
+
 import os
 import re
 import shlex
+import socket
 import subprocess
 import threading
 import time
+from collections.abc import Sequence
 
 from .escapes import escaped
 from .folder import Refused, is_locked, program
@@ -35,11 +40,11 @@ LAST_BYTES = 4096
 INTERRUPTED = 130
 
 
-def say(text):
+def say(text: str) -> None:
     print(escaped(text), flush=True)
 
 
-def is_up(farm):
+def is_up(farm: str) -> bool:
     """Whether the operator of a farm is answered."""
     try:
         return any(it.startswith("!words ") for it in ask_operator(farm, "!words", ANSWER_SECONDS))
@@ -51,34 +56,39 @@ class Work(threading.Thread):
     """What is done with one farm, beside the others. `outcome` is at last whether it went well, and what became of the
     farm."""
 
-    def __init__(self, folder, course):
+    def __init__(self, folder: str, course: str) -> None:
         super().__init__(daemon=True)
         self.folder, self.course, self.name = folder, course, os.path.basename(folder)
-        self.begun, self.outcome = time.monotonic(), None
+        self.begun = time.monotonic()
+        self.outcome: tuple[bool, str] | None = None
 
-    def run(self):
+    def run(self) -> None:
         try:
             self.outcome = self.done()
         except (OSError, Refused) as error:
             self.outcome = False, f"{error}"
 
-    def done(self):
+    def done(self) -> tuple[bool, str]:
         """Does it, and returns the outcome."""
         raise NotImplementedError
 
-    def waited(self):
+    def waited(self) -> str:
         """What is waited for."""
         raise NotImplementedError
 
-    def left(self):
+    def left(self) -> str:
         """What goes on when nobody waits any longer."""
         raise NotImplementedError
 
-    def seconds(self):
+    def told_at_last(self) -> str:
+        """What became of it, if that is known."""
+        return self.outcome[1] if self.outcome else "see above"
+
+    def seconds(self) -> int:
         """For how many seconds it has been waited."""
         return round(time.monotonic() - self.begun)
 
-    def whose(self):
+    def whose(self) -> str:
         """Who has the folder."""
         number = serve_of(self.folder)
         return f"its serve (process {number})" if number else f"what has locked {os.path.join(self.folder, 'lock')}"
@@ -87,12 +97,15 @@ class Work(threading.Thread):
 class Start(Work):
     """A farm that is started, unless it is up."""
 
-    def __init__(self, folder, course, users, rights):
+    def __init__(self, folder: str, course: str, users: int, rights: list[str]) -> None:
         super().__init__(folder, course)
-        self.users, self.rights, self.process, self.starts = users, rights, None, 0
-        self.log, self.size, self.news, self.last = os.path.join(folder, "serve.log"), None, (None, 0), self.begun
+        self.users, self.rights, self.starts = users, rights, 0
+        self.process: subprocess.Popen[bytes] | None = None
+        self.log, self.last = os.path.join(folder, "serve.log"), self.begun
+        self.size: int | None = None
+        self.news = ("", 0)
 
-    def done(self):
+    def done(self) -> tuple[bool, str]:
         while not is_up(self.folder):
             if self.process is not None and self.process.poll() is not None:
                 if TAKEN not in self.said() or self.starts == MOST_BEGUN:
@@ -109,11 +122,11 @@ class Start(Work):
             time.sleep(PAUSE)
         return True, self.is_well()
 
-    def is_well(self):
+    def is_well(self) -> str:
         """What is said when it is up."""
         return f"up, {count(self.users, 'user')}"
 
-    def start_serve(self):
+    def start_serve(self) -> None:
         self.starts += 1
         self.size = os.path.getsize(self.log) if os.path.exists(self.log) else 0
         with open(self.log, "ab") as log:
@@ -126,14 +139,14 @@ class Start(Work):
                 start_new_session=True,
             )
 
-    def is_quiet(self):
+    def is_quiet(self) -> bool:
         """Whether it isn't waited any longer, since nothing new was seen."""
         news = self.whose(), os.path.getsize(self.log) if os.path.exists(self.log) else 0
         if news != self.news:
             self.news, self.last = news, time.monotonic()
         return time.monotonic() > self.last + QUIET_SECONDS
 
-    def said(self):
+    def said(self) -> bytes:
         """What the `serve` that was begun here has said last."""
         if self.size is None:
             return b""
@@ -142,19 +155,19 @@ class Start(Work):
             log.seek(max(self.size, end - LAST_BYTES))
             return log.read()
 
-    def told(self):
+    def told(self) -> str:
         """The last line of that without its time, behind a colon."""
         lines = self.said().decode(errors="surrogateescape").split("\n")
         return next((f": {TIME.sub('', it)}" for it in reversed(lines) if it), "")
 
-    def next_steps(self):
+    def next_steps(self) -> str:
         course = shlex.quote(self.course)
         return f"class status {course} shows when it is up, and class stop {course} ends it"
 
-    def waited(self):
+    def waited(self) -> str:
         return f"no answer yet after {self.seconds()} seconds from {self.whose()}{self.told()}"
 
-    def left(self):
+    def left(self) -> str:
         return f"not up yet, and {self.whose()} goes on. {self.next_steps()}"
 
 
@@ -164,11 +177,12 @@ class Stop(Work):
     # what its operator says
     LINES = b"!stop\n"
 
-    def __init__(self, folder, course):
+    def __init__(self, folder: str, course: str) -> None:
         super().__init__(folder, course)
-        self.stream, self.has_signalled, self.why = None, False, None
+        self.stream: socket.socket | None = None
+        self.has_signalled, self.why = False, ""
 
-    def done(self):
+    def done(self) -> tuple[bool, str]:
         if not is_locked(self.folder):
             return True, "off"
         try:
@@ -177,7 +191,7 @@ class Stop(Work):
             if self.stream is not None:
                 self.stream.close()
 
-    def stopped(self):
+    def stopped(self) -> tuple[bool, str]:
         """Asks it as soon as it can be asked, and waits until nobody has the folder."""
         ended = None
         while is_locked(self.folder):
@@ -193,10 +207,10 @@ class Stop(Work):
             time.sleep(PAUSE)
         return True, "off, ended by a signal" if self.has_signalled else "off"
 
-    def is_asked(self):
+    def is_asked(self) -> bool:
         return self.stream is not None or self.has_signalled
 
-    def ask(self):
+    def ask(self) -> None:
         """Asks it once. The connection stays open, so that the line isn't lost."""
         if self.stream is None:
             try:
@@ -216,10 +230,10 @@ class Stop(Work):
             except OSError as error:
                 self.why = f"{self.whose()} can't be ended: {error.strerror}"
 
-    def is_cut(self):
+    def is_cut(self) -> bool:
         """Whether the farm has ended the connection."""
         try:
-            while piece := self.stream.recv(LAST_BYTES):
+            while self.stream and (piece := self.stream.recv(LAST_BYTES)):
                 del piece
             return True
         except BlockingIOError:
@@ -227,18 +241,18 @@ class Stop(Work):
         except OSError:
             return True
 
-    def waited(self):
+    def waited(self) -> str:
         if not self.is_asked():
             return f"it can't be asked to stop yet: {self.why}"
         return f"not off yet after {self.seconds()} seconds: {self.whose()} ends when all that waits there is answered"
 
-    def left(self):
+    def left(self) -> str:
         if not self.is_asked():
             return "it isn't asked to stop"
         return f"not off yet, but asked to stop: {self.whose()} goes on with that"
 
 
-def all_done(works):
+def all_done(works: Sequence[Work]) -> list[Work]:
     """Does works side by side, and says each few seconds what is waited for; those that failed."""
     for work in works:
         work.start()
@@ -249,7 +263,7 @@ def all_done(works):
     return [it for it in works if not (it.outcome or (False, ""))[0]]
 
 
-def do_all(works):
+def do_all(works: Sequence[Work]) -> int:
     """Does works side by side, and says what became of each, in their order, and each few seconds what is waited for; the
     status."""
     for work in works:

@@ -1,9 +1,15 @@
 """The verbs that a person at a terminal has, and what stands behind each."""
+
+from __future__ import annotations
+
 import difflib
 import re
-from typing import NamedTuple
+from typing import TYPE_CHECKING, NamedTuple
 
 from .hints import meant
+
+if TYPE_CHECKING:
+    from .ports import Ports
 
 
 class Kind(NamedTuple):
@@ -30,11 +36,11 @@ class Verb(NamedTuple):
     """The words behind a verb, an example, what the verb does, how many of the words may be left out, and what else is
     to be known."""
 
-    kinds: tuple
+    kinds: tuple[Kind, ...]
     example: str
     meaning: str
     optional: int = 0
-    more: tuple = ()
+    more: tuple[str, ...] = ()
 
 
 LOADING = (
@@ -101,14 +107,14 @@ class Wrong(Exception):
     """A line that isn't sent: which word is wrong, and what to try."""
 
 
-def is_of(kind, word):
+def is_of(kind: Kind, word: str) -> bool:
     if re.fullmatch(kind.pattern, word, re.ASCII) is None:
         return False
     digits = word.lstrip("0") or "0"
     return not kind.most or (len(digits) <= len(str(kind.most)) and int(digits) <= kind.most)
 
 
-def with_ports(ports):
+def with_ports(ports: Ports) -> dict[str, Verb]:
     """The verbs of a user, with examples for his own ports and his own host."""
     link, port = (PORT._replace(example=f"{it}") for it in (ports.link, ports.port))
     config, host = f"config 01{ports.link:02x}{ports.port:02x}03", HOST._replace(example=f"{ports.host}")
@@ -127,7 +133,7 @@ def with_ports(ports):
     return {**USERS, **own}
 
 
-def find(table, word):
+def find(table: dict[str, Verb], word: str) -> Verb:
     """The verb of this name."""
     if word in table:
         return table[word]
@@ -141,7 +147,7 @@ def find(table, word):
     )
 
 
-def check(name, verb, words):
+def check(name: str, verb: Verb, words: list[str]) -> None:
     """Refuses the words behind a verb if their number is wrong, or one of them."""
     for kind, word in zip(verb.kinds, words):
         if not is_of(kind, word):
@@ -157,12 +163,12 @@ def check(name, verb, words):
         )
 
 
-def goes_on(answer):
+def goes_on(answer: str) -> bool:
     """Whether this isn't the last line of an answer: only `why` has several, and its last is `why end`."""
     return answer.startswith("why ") and not re.fullmatch(r"why (end|\d+ nosuch)", answer)
 
 
-def help_lines(table, word=None):
+def help_lines(table: dict[str, Verb], word: str | None = None) -> list[str]:
     """An example of each verb with what it does, or of one."""
     chosen = {word: find(table, word)} if word else table
     return [

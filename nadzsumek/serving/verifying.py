@@ -1,15 +1,22 @@
 """Whether a file is what the farm itself has recorded of a student."""
+
+from __future__ import annotations
+
 import os
 import re
 import shlex
 import tempfile
-from typing import NamedTuple
+from collections.abc import Iterator
+from typing import TYPE_CHECKING, NamedTuple
 
 from .escapes import escaped
 from .folder import Refused
 from .kept import student_in
 from .records import PIECE, records_of
 from .sheets import count
+
+if TYPE_CHECKING:
+    from .kept import Kept
 
 # The line between the plan of a record and its events, also if its lines got carriage returns.
 DIVIDER = re.compile(rb"\n---\r?\n")
@@ -32,19 +39,19 @@ class Compared(NamedTuple):
     size: int
     recorded: int
 
-    def is_beginning(self):
+    def is_beginning(self) -> bool:
         return self.same == self.size
 
-    def is_whole(self):
+    def is_whole(self) -> bool:
         return self.same == self.size == self.recorded
 
 
-def sizes_of(file, other):
+def sizes_of(file: int, other: int) -> tuple[int, int]:
     """The sizes of two open files, that of the first before the other's, which may grow."""
     return os.fstat(file).st_size, os.fstat(other).st_size
 
 
-def same_bytes(file, other, size):
+def same_bytes(file: int, other: int, size: int) -> int:
     """How many of the first `size` bytes of two open files are the same."""
     at = 0
     while at < size:
@@ -55,7 +62,7 @@ def same_bytes(file, other, size):
     return at
 
 
-def compared(file, path):
+def compared(file: int, path: str) -> Compared:
     """How far an open file is the record at a path."""
     other = os.open(path, os.O_RDONLY)
     try:
@@ -65,7 +72,7 @@ def compared(file, path):
         os.close(other)
 
 
-def whole_lines(file, size):
+def whole_lines(file: int, size: int) -> Iterator[bytes]:
     """The whole lines among the first bytes of an open file, in pieces."""
     at, rest = 0, b""
     while at < size and (piece := os.pread(file, min(PIECE, size - at), at)):
@@ -74,7 +81,7 @@ def whole_lines(file, size):
         yield from lines
 
 
-def events_in(file, size):
+def events_in(file: int, size: int) -> int:
     """How many events the whole lines have among the first bytes of a record."""
     head = os.pread(file, min(MOST_HEAD, size), 0)
     divider = DIVIDER.search(head)
@@ -88,7 +95,7 @@ def events_in(file, size):
     )
 
 
-def line_at(file, at):
+def line_at(file: int, at: int) -> tuple[int, str | None]:
     """The line of an open file that has this byte: its number, and its text as it is shown; none after the end."""
     number, begun, place = 1, 0, 0
     while place < at and (piece := os.pread(file, min(PIECE, at - place), place)):
@@ -103,7 +110,7 @@ def line_at(file, at):
     return number, text if end or len(line) <= MOST_SHOWN else f"{text}.."
 
 
-def difference(name, given, file, it):
+def difference(name: str, given: str, file: int, it: Compared) -> list[str]:
     """What is said of a file that isn't the record: the first line that differs, as the file and the record have it."""
     number, here = line_at(file, it.same)
     other = os.open(it.path, os.O_RDONLY)
@@ -124,7 +131,7 @@ def difference(name, given, file, it):
     return rows
 
 
-def with_removed(kept):
+def with_removed(kept: Kept) -> dict[str, list[str]]:
     """The farms of a class, with those too who were removed."""
     farms = {farm: [*names] for farm, names in kept.farms.items()}
     for name, farm in kept.removed.items():
@@ -132,7 +139,7 @@ def with_removed(kept):
     return farms
 
 
-def under_this_name(file, user, earlier):
+def under_this_name(file: int, user: str, earlier: list[str]) -> int:
     """An open file as it is under the name that its student has now, if it is a record from before he was renamed."""
     head, divider, _ = os.pread(file, MOST_HEAD, 0).partition(b"\n---\n")
     here = next((it for it in earlier if b'name = "%s"' % it.encode() in head), None)
@@ -147,7 +154,7 @@ def under_this_name(file, user, earlier):
         return os.dup(renamed.fileno())
 
 
-def verify(course, kept, name, given):
+def verify(course: str, kept: Kept, name: str, given: str) -> tuple[int, list[str]]:
     """Compares a file with the records of a student: the status, and what is said."""
     folder, user = student_in(with_removed(kept), name, course)
     records = os.path.join(course, os.path.basename(folder), "records")
@@ -169,7 +176,7 @@ def verify(course, kept, name, given):
             os.close(it)
 
 
-def verified(user, given, file, paths):
+def verified(user: str, given: str, file: int, paths: list[str]) -> tuple[int, list[str]]:
     """The same of an open file and of the records of a user, in their order."""
     size = os.fstat(file).st_size
     if DIVIDER.search(os.pread(file, MOST_HEAD, 0)) is None:

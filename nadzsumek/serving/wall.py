@@ -36,10 +36,10 @@ TOLD = "Nodes are as they were when the student was last answered. Nothing of th
 class Nodes:
     """What is said of the nodes of each student by the newest record, which is read again only if it has grown."""
 
-    def __init__(self):
-        self.kept = {}
+    def __init__(self) -> None:
+        self.kept: dict[tuple[str, str], tuple[tuple[str, int, int], list[str]]] = {}
 
-    def of(self, farm, user):
+    def of(self, farm: str, user: str) -> list[str]:
         """What each node waits for, as lines; or why that isn't said."""
         paths = records_of(os.path.join(farm, "records"), user)
         if not paths:
@@ -49,12 +49,12 @@ class Nodes:
         except OSError as error:
             return [f"the record can't be read: {error.strerror}"]
         key = paths[-1], it.st_size, it.st_ino
-        if self.kept.get((farm, user), (None,))[0] != key:
+        if (farm, user) not in self.kept or self.kept[farm, user][0] != key:
             self.kept[farm, user] = key, read(paths[-1], it.st_size)
         return self.kept[farm, user][1]
 
 
-def read(path, size):
+def read(path: str, size: int) -> list[str]:
     """What `lab why` says of a record."""
     if size > MOST_BYTES:
         return ["the record is too long to be done again for this page"]
@@ -80,12 +80,12 @@ def read(path, size):
     return lines[:MOST_LINES] + ([".."] if len(lines) > MOST_LINES else [])
 
 
-def cell(text, kind=""):
+def cell(text: str, kind: str = "") -> str:
     """A cell of the page."""
     return f'<td class="{kind}">{html.escape(escaped(text))}</td>' if kind else f"<td>{html.escape(escaped(text))}</td>"
 
 
-def row_of(row, person, nodes):
+def row_of(row: tuple[str, ...], person: str, nodes: list[str]) -> str:
     """A student's row on the page."""
     now = row[NOW].split(" ")
     kind = "rests" if "rests" in now else now[0] if now[0] in ("busy", "off", "no") else ""
@@ -99,7 +99,7 @@ def row_of(row, person, nodes):
     )
 
 
-def wall_of(course, nodes, seconds):
+def wall_of(course: str, nodes: Nodes, seconds: int | None) -> str:
     """The page."""
     farms = class_in(course).farms
     with ThreadPoolExecutor(len(farms) or 1) as pool:
@@ -118,27 +118,27 @@ def wall_of(course, nodes, seconds):
     )
 
 
-def seconds_of(word):
+def seconds_of(word: str) -> int:
     if not re.fullmatch("[0-9]{1,4}", word) or int(word) not in TIMES:
         raise argparse.ArgumentTypeError(f"whole seconds are wanted, {TIMES[0]} to {TIMES[-1]}")
     return int(word)
 
 
-def wall(words):
+def wall(words: list[str]) -> int:
     """Writes a page of what the students of a class do, again and again."""
-    it = argparse.ArgumentParser(
+    parser = argparse.ArgumentParser(
         prog="class wall",
         usage="class wall [--seconds N] [--once] DIR FILE",
         description="Writes a page for a browser, again and again, with what each student's nodes wait "
         "for. Ctrl-C ends it.",
     )
-    it.add_argument(
+    parser.add_argument(
         "--seconds", type=seconds_of, default=SECONDS, metavar="N", help=f"how often it is written, default {SECONDS}"
     )
-    it.add_argument("--once", action="store_true", help="writes it once, and ends")
-    it.add_argument("DIR", help="the folder of the class")
-    it.add_argument("FILE", help="the page's file")
-    it = it.parse_args(words)
+    parser.add_argument("--once", action="store_true", help="writes it once, and ends")
+    parser.add_argument("DIR", help="the folder of the class")
+    parser.add_argument("FILE", help="the page's file")
+    it = parser.parse_args(words)
     class_in(it.DIR)
     if os.path.isdir(it.FILE) or not os.path.isdir(os.path.dirname(os.path.abspath(it.FILE))):
         raise Refused(f"there can be no file {it.FILE}: choose another")
