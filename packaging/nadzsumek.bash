@@ -7,14 +7,13 @@ _nadzsumek_options() {
     lab) echo '-h --help --version' ;;
     lab\ replay) echo '--steps -h --help' ;;
     lab\ plan) echo '-h --help' ;;
-    lab\ draw) echo '--domain --steps -h --help' ;;
     lab\ trace) echo '--boot --program --plan --domain --steps --until --input -h --help' ;;
     lab\ assemble) echo '--listing --pokes -h --help' ;;
     lab\ disassemble) echo '-h --help' ;;
     lab\ occam) echo '--code --listing --pokes --core --sizes --memory -h --help' ;;
     lab\ rows) echo '--steps -h --help' ;;
     lab\ why) echo '--at --program --steps -h --help' ;;
-    lab\ film) echo '--from --count --program --steps -h --help' ;;
+    lab\ film) echo '--from --count --program --json --steps -h --help' ;;
     lab\ expand) echo '-h --help' ;;
     lab\ run) echo '--record --steps -h --help' ;;
     lab\ debug) echo '--program --steps -h --help' ;;
@@ -41,7 +40,6 @@ _nadzsumek_values() {
     farm) echo '--workers --quantum' ;;
     live) echo '--workers --quantum --record --room --record-room' ;;
     lab\ replay) echo '--steps' ;;
-    lab\ draw) echo '--domain --steps' ;;
     lab\ trace) echo '--boot --program --plan --domain --steps --until --input' ;;
     lab\ assemble) echo '--pokes' ;;
     lab\ occam) echo '--pokes --memory' ;;
@@ -63,7 +61,7 @@ _nadzsumek_values() {
 
 _nadzsumek_words() {
   case $1 in
-    lab) echo 'replay plan draw trace assemble disassemble occam rows why film expand run debug' ;;
+    lab) echo 'replay plan trace assemble disassemble occam rows why film expand run debug' ;;
     class) echo 'start serve stop status add remove change rename finish verify check wall' ;;
   esac
 }

@@ -1,4 +1,6 @@
 """Chromium without a window: a page is opened, asked and seen, over the pipe of its DevTools protocol."""
+from __future__ import annotations
+
 import base64
 import json
 import os
@@ -8,6 +10,7 @@ import subprocess
 import sys
 import tempfile
 import time
+from typing import Any
 
 SECONDS = 30
 # Debian's package and its program
@@ -15,7 +18,7 @@ PACKAGE = "chromium"
 INSTALL = ["apt-get", "install", "-y", "-q", "--no-install-recommends", PACKAGE]
 
 
-def chromium():
+def chromium() -> str:
     """The path of the program. It is installed if it isn't there and this is root on a machine with apt-get."""
     found = shutil.which(PACKAGE)
     if found is not None:
@@ -38,7 +41,7 @@ class PageFailed(Exception):
 class Browser:
     """A browser with one page. Whatever the page's script throws is kept in `faults`."""
 
-    def __init__(self):
+    def __init__(self) -> None:
         self.folder = tempfile.TemporaryDirectory(ignore_cleanup_errors=True)
         asks, self.asked = os.pipe()
         self.told, tells = os.pipe()
@@ -65,7 +68,9 @@ class Browser:
         )
         os.close(asks)
         os.close(tells)
-        self.rest, self.count, self.faults, self.session = b"", 0, [], None
+        self.rest, self.count = b"", 0
+        self.faults: list[str] = []
+        self.session: str | None = None
         self.waits = selectors.DefaultSelector()
         self.waits.register(self.told, selectors.EVENT_READ)
         page = next(it for it in self.ask("Target.getTargets")["targetInfos"] if it["type"] == "page")
@@ -73,10 +78,10 @@ class Browser:
         for domain in ("Page", "Runtime", "Network"):
             self.ask(f"{domain}.enable")
 
-    def __enter__(self):
+    def __enter__(self) -> Browser:
         return self
 
-    def __exit__(self, *_):
+    def __exit__(self, *_: object) -> None:
         os.close(self.asked)
         try:
             self.process.wait(timeout=SECONDS)
@@ -86,7 +91,7 @@ class Browser:
         os.close(self.told)
         self.folder.cleanup()
 
-    def hear(self, until):
+    def hear(self, until: float) -> Any:
         """The next message."""
         while b"\0" not in self.rest:
             if not self.waits.select(max(0, until - time.monotonic())):
@@ -98,14 +103,14 @@ class Browser:
         message, self.rest = self.rest.split(b"\0", 1)
         return json.loads(message)
 
-    def note(self, message):
+    def note(self, message: Any) -> None:
         method, more = message.get("method"), message.get("params", {})
         if method == "Runtime.exceptionThrown":
             self.faults.append(json.dumps(more["exceptionDetails"].get("exception", {}).get("description", more)))
         elif method == "Network.requestWillBeSent" and not more["request"]["url"].startswith("file:"):
             self.faults.append(f"the page asks for {more['request']['url']}")
 
-    def ask(self, method, **words):
+    def ask(self, method: str, **words: Any) -> Any:
         """What a command answers."""
         self.count += 1
         session = {} if self.session is None else {"sessionId": self.session}
@@ -119,7 +124,7 @@ class Browser:
             raise PageFailed(f"{method}: {message['error']}")
         return message["result"]
 
-    def open(self, path, width=1280, height=800):
+    def open(self, path: str, width: int = 1280, height: int = 800) -> float:
         """Opens a file, and waits until its script has run. The answer is how many seconds that took."""
         self.size(width, height)
         self.ask("Page.navigate", url="about:blank")
@@ -134,26 +139,26 @@ class Browser:
             time.sleep(0.01)
         return time.monotonic() - begun
 
-    def look(self, expression):
+    def look(self, expression: str) -> Any:
         """The value of an expression in the page."""
         told = self.ask("Runtime.evaluate", expression=expression, returnByValue=True)
         if "exceptionDetails" in told:
             raise PageFailed(f"{expression}: {told['exceptionDetails']}")
         return told["result"].get("value")
 
-    def press(self, key, shift=False):
+    def press(self, key: str, shift: bool = False) -> None:
         """Presses a key, as `a`, `ArrowLeft` or `Home`."""
         for kind in ("keyDown", "keyUp"):
             self.ask("Input.dispatchKeyEvent", type=kind, key=key, modifiers=8 if shift else 0)
 
-    def size(self, width, height):
+    def size(self, width: int, height: int) -> None:
         self.ask("Emulation.setDeviceMetricsOverride", width=width, height=height, deviceScaleFactor=1, mobile=False)
 
-    def colours(self, scheme):
+    def colours(self, scheme: str) -> None:
         """`light` or `dark`."""
         self.ask("Emulation.setEmulatedMedia", features=[{"name": "prefers-color-scheme", "value": scheme}])
 
-    def picture(self, path):
+    def picture(self, path: str) -> None:
         """A picture of the whole page."""
         told = self.ask("Page.captureScreenshot", format="png", captureBeyondViewport=True)
         with open(path, "wb") as it:

@@ -1,5 +1,6 @@
-"""Runs the lab with this front end beside it. The program asks for the unit of a text by two named pipes, in the folder that the
-variable NADZSUMEK_OCCAM names: it writes a line, `unit` or `core`, and the text to `asked`, and reads the answer from `answered`.
+"""Runs the lab with this front end beside it, and makes the page of a film (`nadzsumek/film`). The program asks for the unit of a
+text by two named pipes, in the folder that the variable NADZSUMEK_OCCAM names: it writes a line, `unit` or `core`, and the text to
+`asked`, and reads the answer from `answered`.
 
 usage: asking.py PROGRAM WORD..
 
@@ -10,6 +11,7 @@ set, each text is compiled within bounds of time and memory (`bounded.py`).
 
 from __future__ import annotations
 
+import functools
 import gc
 import os
 import shutil
@@ -94,8 +96,17 @@ def run_lab(program: str, words: list[str]) -> NoReturn:
         sys.exit(NOT_STARTED)
 
 
+def start(program: str, words: list[str]) -> NoReturn:
+    """Runs the lab with these words. The film that it prints becomes a page, unless the words ask for JSON."""
+    if words[:1] == ["film"] and "--json" not in words:
+        from nadzsumek.film.page import run_beside
+
+        run_beside(functools.partial(run_lab, program, words))
+    run_lab(program, words)
+
+
 if __name__ == "__main__":
     sys.path.insert(0, os.path.dirname(os.path.dirname(os.path.dirname(os.path.abspath(__file__)))))
     if len(sys.argv) < 2:
         sys.exit(__doc__)
-    run_lab(sys.argv[1], sys.argv[2:])
+    start(sys.argv[1], sys.argv[2:])

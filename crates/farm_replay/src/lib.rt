@@ -9,4 +9,4 @@ mod replaying;
 
 pub use fault::{AskFault, FarmStop};
 pub use open_farm::OpenFarm;
-pub use replaying::{AnsweredRequests, answer_requests, answer_times};
+pub use replaying::{answer_requests, answer_times};

@@ -516,8 +516,8 @@ impl OpenFarm {
         Ok(entries)
     }
 
-    /// The words of the physical outputs.
-    pub fn words(&mut self) -> [Word; PORTS as usize]
+    // The words of the physical outputs.
+    fn words(&mut self) -> [Word; PORTS as usize]
         ensures farm { self.new.farm ≡ self.old.farm }
     {
         let mut words = [Word::UNUSED; PORTS as usize];

@@ -7,21 +7,11 @@ ghost use Rattle.farm_replay.specs.Runs.{ShowsAsked};
 use crate::answer_list::AnswerList;
 use crate::fault::FarmStop;
 use crate::open_farm::OpenFarm;
-use crossbar::{PORTS, Word};
 use event_text::RepeatedRequest;
 use plan_checker::AcceptedPlan;
 use std::alloc::Global;
 use step_meter::StepMeter;
 use whole_farm::laws::runs_add_up;
-
-/// What came of requests.
-#[derive(Drop)]
-pub struct AnsweredRequests {
-    /// A line for each of them, in order.
-    pub lines: Vec<String>,
-    /// The switch words of the 32 physical outputs after them.
-    pub words: [Word; PORTS as usize],
-}
 
 /// Asks the farm of a plan, from its opening, one request after another, and answers each in a line.
 ///
@@ -33,17 +23,16 @@ pub fn answer_requests<M: StepMeter>(
     plan: &AcceptedPlan,
     requests: &[RepeatedRequest],
     meter: &mut M,
-) -> Result<AnsweredRequests, FarmStop>
-    ensures one_each { IfOk result (λ r. length r.lines.items ≡ length requests.now) }
-    ensures lines { IfOk result (λ r. AreLinesOfPlan plan.now requests.now (map string_bytes r.lines.items)) }
+) -> Result<Vec<String>, FarmStop>
+    ensures one_each { IfOk result (λ lines. length lines.items ≡ length requests.now) }
+    ensures lines { IfOk result (λ lines. AreLinesOfPlan plan.now requests.now (map string_bytes lines.items)) }
 {
     let mut farm = OpenFarm::open(alloc, plan)?;
     let mut lines = Vec::new(alloc);
     for request in requests {
         lines.push(answer_times(alloc, plan, &mut farm, request, meter)?)?;
     }
-    let words = farm.words();
-    Ok(AnsweredRequests { lines, words })
+    Ok(lines)
 }
 
 /// The answers of a request in a line, as often as it is asked.

@@ -1,18 +1,16 @@
-//! A record as a page to look at.
+//! A record as a film.
 
 use crate::debugging::read_programs;
 use crate::failure::stopped_record;
 use crate::programs::{ReadProgram, read_node_programs};
 use lab_command::{LabFailure, Showing, TerminalMeter, read_file};
 use lab_debug::ProgramOf;
-use lab_film::{SourceLine, Span, film_of, page_of, sources_of};
+use lab_film::{SourceLine, Span, film_of};
 use node_trace::{LinePlace, ProgramLine};
 use record_following::RecordStop;
-use std::alloc::{Alloc, AllocError, Global};
-use std::env::Env;
-use std::fs::Files;
+use std::alloc::{AllocError, Global};
 
-/// The page that shows a span of a record, with the lines of the programs that are named. Wrong words are reported before a
+/// A span of a record as a film, with the lines of the programs that are named. Wrong words are reported before a
 /// file is read.
 pub fn print_film(rt: &HostRuntime, asked: &Showing) -> Result<String, LabFailure> {
     match read_programs(rt.alloc(), asked.programs.as_slice()) {
@@ -26,24 +24,20 @@ fn print_record(
     asked: &Showing,
     programs: &[ProgramOf],
 ) -> Result<String, LabFailure> {
-    let sources = read_sources(rt, programs)?;
+    let programs = read_node_programs(rt, programs)?;
+    let sources = sources_of(rt.alloc(), programs.as_slice())?;
     let record = read_file(rt, asked.record)?;
-    match show(rt, record.as_slice(), asked, sources.as_str()) {
-        Ok(page) => Ok(page),
+    match show(rt, record.as_slice(), asked, sources.as_slice()) {
+        Ok(film) => Ok(film),
         Err(stop) => Err(stopped_record(rt.alloc(), stop)),
     }
 }
 
-// The lines of programs, as the page has them.
-fn read_sources<R: Files + Env + Alloc<A = Global>>(
-    rt: &R,
-    programs: &[ProgramOf],
-) -> Result<String, LabFailure> {
-    let read = read_node_programs(rt, programs)?;
-    Ok(sources_told(rt.alloc(), read.as_slice())?)
-}
-
-fn sources_told(alloc: Global, programs: &[ReadProgram]) -> Result<String, AllocError> {
+// The lines of programs, as the film has them.
+fn sources_of<'a>(
+    alloc: Global,
+    programs: &'a [ReadProgram],
+) -> Result<Vec<SourceLine<'a>>, AllocError> {
     let mut sources = Vec::new(alloc);
     for it in programs {
         let lines = it.program.lines(alloc)?;
@@ -51,10 +45,10 @@ fn sources_told(alloc: Global, programs: &[ReadProgram]) -> Result<String, Alloc
             sources.push(source_line(it.node, line))?;
         }
     }
-    sources_of(alloc, sources.as_slice())
+    Ok(sources)
 }
 
-// A line of a node's program, as the page has it.
+// A line of a node's program, as the film has it.
 fn source_line<'a>(node: u8, line: &ProgramLine<'a>) -> SourceLine<'a> {
     let (label, occam_line, instance) = match line.place {
         LinePlace::Label(Some(label)) => (Some((label.name, label.address)), None, None),
@@ -76,14 +70,14 @@ fn show(
     rt: &HostRuntime,
     record: &[u8],
     asked: &Showing,
-    sources: &str,
+    sources: &[SourceLine],
 ) -> Result<String, RecordStop> {
     let span = Span {
         from: asked.from,
         count: asked.count,
     };
     let mut meter = TerminalMeter::begin(rt, asked.most);
-    let film = film_of(rt.alloc(), record, span, &mut meter);
+    let film = film_of(rt.alloc(), record, sources, span, &mut meter);
     meter.wipe();
-    Ok(page_of(rt.alloc(), film?.as_str(), sources)?)
+    film
 }

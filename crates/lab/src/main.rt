@@ -21,7 +21,7 @@ mod why;
 use crate::debugging::print_debugging;
 use crate::film::print_film;
 use crate::occam_texts::report_occam;
-use crate::replays::{print_drawing, print_replayed};
+use crate::replays::print_replayed;
 use crate::rows::report_rows;
 use crate::scripts::print_script;
 use crate::table::print_plan;
@@ -51,7 +51,6 @@ fn answer(rt: &HostRuntime, request: &LabRequest) -> Result<Report, LabFailure> 
         LabRequest::Occam(asked) => report_occam(rt, asked),
         LabRequest::Plan => Report::of(print_plan(rt)),
         LabRequest::Replay(most) => Report::of(print_replayed(rt, *most)),
-        LabRequest::Draw(drawing) => Report::of(print_drawing(rt, *drawing)),
         LabRequest::Script(script, what) => Report::of(print_script(rt, *script, *what)),
         LabRequest::TraceScript(asked) => Report::of(print_trace(rt, *asked)),
         LabRequest::Why(asked) => Report::of(print_why(rt, asked)),

@@ -11,7 +11,6 @@ use lab_command::{LabFailure, Report, RowFiles, TerminalMeter, read_file};
 use lab_words::{Answered, NumberedLineFault, Question, read_questions};
 use node_answers::wrong_trace;
 use node_trace::{TraceFault, trace};
-use script_replay::Replayed;
 use script_text::TextWriter;
 use std::alloc::{Alloc, Global};
 use std::env::Env;
@@ -84,7 +83,7 @@ fn answer_replayed<'a, R: Files + Env + Alloc<A = Global>>(
     meter: &mut TerminalMeter,
 ) -> Result<Vec<Answered<'a>>, LabFailure> {
     match replay_with_files(rt, folder_of(file), text, meter) {
-        Ok(Replayed { answers, last: _ }) => Ok(answers),
+        Ok(answers) => Ok(answers),
         Err(fault) => Err(wrong_replay(rt.alloc(), fault)),
     }
 }

@@ -39,7 +39,6 @@ pub(crate) enum Argument {
     Steps,
     Until,
     Input,
-    DrawnDomain,
     Files,
     Record,
     Script,
@@ -47,6 +46,7 @@ pub(crate) enum Argument {
     At,
     From,
     Count,
+    Json,
     Program,
     Listing,
     Pokes,
@@ -118,12 +118,6 @@ impl Argument {
                 Form::Words,
                 "Sends these bytes to the booted code by this link, each when the one before it is taken",
             ),
-            Argument::DrawnDomain => argument_words(
-                "domain",
-                "D",
-                Form::Domain,
-                "Draws the network of this domain, its nodes, hosts and wires, in place of the switch",
-            ),
             Argument::Files => argument_words(
                 "file",
                 "FILE",
@@ -165,6 +159,12 @@ impl Argument {
                 "N",
                 Form::NumberOr("100000"),
                 "How many frames are shown at most",
+            ),
+            Argument::Json => argument_words(
+                "json",
+                "",
+                Form::Flag,
+                "Prints the film as JSON, which other programs read, in place of the page",
             ),
             Argument::Program => argument_words(
                 "program",

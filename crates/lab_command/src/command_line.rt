@@ -3,7 +3,7 @@
 use crate::arguments::arg_of;
 use crate::failure::{ArgumentFault, LabFailure, WRONG_WORDS};
 use crate::request::{
-    AssemblyOptions, BootOptions, BootedCode, Debugging, Drawing, Explaining, LabRequest,
+    AssemblyOptions, BootOptions, BootedCode, Debugging, Explaining, LabRequest,
     NodeRequest, OccamForm, OccamRequest, RowFiles, ScriptUse, Showing, TracedScript,
 };
 use crate::subcommand::{SUBCOMMANDS, Subcommand};
@@ -189,7 +189,6 @@ fn read_subcommand<'a>(
     match subcommand {
         Subcommand::Replay => Ok(LabRequest::Replay(steps_of(matches))),
         Subcommand::Plan => Ok(LabRequest::Plan),
-        Subcommand::Draw => Ok(LabRequest::Draw(drawing_of(matches))),
         Subcommand::Trace => read_trace(alloc, matches),
         Subcommand::Assemble => Ok(LabRequest::Node(NodeRequest::Assemble(read_options(matches)))),
         Subcommand::Disassemble => Ok(LabRequest::Node(NodeRequest::Disassemble)),
@@ -200,13 +199,6 @@ fn read_subcommand<'a>(
         Subcommand::Expand => Ok(LabRequest::Script(matches.get_str("script"), ScriptUse::Expand)),
         Subcommand::Run => Ok(LabRequest::Script(matches.get_str("script"), run_of(matches))),
         Subcommand::Debug => read_debugging(alloc, matches),
-    }
-}
-
-fn drawing_of(matches: &ArgMatches) -> Drawing {
-    Drawing {
-        domain: matches.get_one::<u8>("domain"),
-        most: steps_of(matches),
     }
 }
 

@@ -11,8 +11,6 @@ pub enum LabRequest<'a> {
     Plan,
     /// To replay standard input on farms, if that takes no more Steps than these.
     Replay(Option<u64>),
-    /// To draw what standard input leaves of a farm.
-    Draw(Drawing),
     /// To do something with the script in a file, or on standard input.
     Script(Option<&'a str>, ScriptUse),
     /// To run the script in a file, and to trace the nodes of a domain.
@@ -21,7 +19,7 @@ pub enum LabRequest<'a> {
     Rows(RowFiles<'a>),
     /// To say why the nodes of a record wait.
     Why(Explaining<'a>),
-    /// To show a span of a record as a page.
+    /// To show a span of a record as a film.
     Film(Showing<'a>),
     /// To look through a record by commands.
     Debug(Debugging<'a>),
@@ -96,15 +94,6 @@ pub enum OccamForm<'a> {
     Core,
     /// As a table of what it takes.
     Sizes,
-}
-
-/// What is drawn of a farm.
-#[derive(Clone, Copy)]
-pub struct Drawing {
-    /// The domain whose network is drawn, or the switch if there is none.
-    pub domain: Option<u8>,
-    /// How many Steps may be done before, or any number.
-    pub most: Option<u64>,
 }
 
 /// What is done with the text of a script.

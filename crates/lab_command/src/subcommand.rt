@@ -7,7 +7,6 @@ use crate::arguments::Argument;
 pub(crate) enum Subcommand {
     Replay,
     Plan,
-    Draw,
     Trace,
     Assemble,
     Disassemble,
@@ -35,7 +34,6 @@ impl Subcommand {
         match self {
             Subcommand::Replay => "replay",
             Subcommand::Plan => "plan",
-            Subcommand::Draw => "draw",
             Subcommand::Trace => "trace",
             Subcommand::Assemble => "assemble",
             Subcommand::Disassemble => "disassemble",
@@ -67,7 +65,6 @@ impl Subcommand {
     pub(crate) fn arguments(self) -> &'static [Argument] {
         match self {
             Subcommand::Replay => &[Argument::Steps],
-            Subcommand::Draw => &[Argument::DrawnDomain, Argument::Steps],
             Subcommand::Trace => &[
                 Argument::Boot,
                 Argument::Booted,
@@ -99,6 +96,7 @@ impl Subcommand {
                 Argument::From,
                 Argument::Count,
                 Argument::Program,
+                Argument::Json,
                 Argument::Steps,
             ],
             Subcommand::Expand => &[Argument::Script],
@@ -116,9 +114,6 @@ impl Subcommand {
             }
             Subcommand::Plan => {
                 "Shows the domains, users, ports and devices of a plan, or where and why it is refused"
-            }
-            Subcommand::Draw => {
-                "Draws the switch, or a domain's network, in SVG after the events of a text as replay reads it"
             }
             Subcommand::Trace => {
                 "Traces a node alone, or all nodes of a plan's domain: reads lines that set a node and let it do Steps"
@@ -155,10 +150,9 @@ impl Subcommand {
 }
 
 /// All of them, in the order of the help.
-pub(crate) const SUBCOMMANDS: [Subcommand; 13] = [
+pub(crate) const SUBCOMMANDS: [Subcommand; 12] = [
     Subcommand::Replay,
     Subcommand::Plan,
-    Subcommand::Draw,
     Subcommand::Trace,
     Subcommand::Assemble,
     Subcommand::Disassemble,

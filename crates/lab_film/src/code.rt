@@ -1,27 +1,24 @@
 //! The bytes of memory around the instruction pointer.
 
 use crate::NoMemory;
+use crate::changes::FrameChanges;
 use bootstrap::Memory;
 use node_memory::MEMORY_START;
 use script_text::TextWriter;
-use serde::Serialize;
+use serde_json::{Value, put};
 use std::alloc::Global;
 
-/// How many bytes before the instruction pointer a film has.
+/// How many bytes before the instruction pointer a film has at least.
 const BEFORE: usize = 16;
 
-/// How many bytes from the instruction pointer on a film has.
+/// How many bytes from the instruction pointer on a film has at least.
 const BEHIND: usize = 32;
+
+/// How many bytes are written together.
+const BLOCK: usize = 16;
 
 /// The most bytes that a memory has.
 const MOST_BYTES: usize = 65_536;
-
-/// Bytes of memory, in hexadecimal digits. `offset` is how many bytes of memory come before them.
-#[derive(Drop, Serialize)]
-pub struct CodeBytes {
-    offset: u64,
-    bytes: String,
-}
 
 /// What a film has shown of the nodes' memories: each byte as it was shown last. A byte that was never shown is `None`.
 #[derive(Drop)]
@@ -58,6 +55,13 @@ fn learn(known: &mut [Option<u8>], start: usize, bytes: &[u8]) -> bool {
     is_new
 }
 
+// The digits of bytes.
+fn digits(alloc: Global, bytes: &[u8]) -> Result<Value, NoMemory> {
+    let mut text = TextWriter::new(alloc);
+    text.push_hex_bytes(bytes);
+    Ok(Value::String(text.finish()?))
+}
+
 impl KnownCode {
     /// Nothing is known of this number of nodes.
     pub fn none(alloc: Global, nodes: usize) -> Result<KnownCode, NoMemory> {
@@ -68,73 +72,31 @@ impl KnownCode {
         Ok(KnownCode { nodes: known })
     }
 
-    /// Words of the memory of a node from an address on, if not all of them are known: those from the first that isn't known
-    /// to the last one. They are known then. None stands for a word outside memory.
-    pub fn tell_words(
-        &mut self,
-        alloc: Global,
-        node: u8,
-        address: u32,
-        words: &[Option<u32>],
-    ) -> Result<Option<CodeBytes>, NoMemory> {
-        let place = address.wrapping_sub(MEMORY_START) as usize;
-        if place >= MOST_BYTES {
-            return Ok(None);
-        }
-        let Some(known) = self.nodes.get_mut(usize::from(node)) else {
-            return Ok(None);
-        };
-        let (mut first, mut end) = (words.len(), 0);
-        for (number, word) in words.iter().enumerate() {
-            if let Some(word) = word
-                && learn(
-                    known.as_mut_slice(),
-                    place + 4 * number,
-                    &word.to_le_bytes(),
-                )
-            {
-                first = first.min(number);
-                end = number + 1;
-            }
-        }
-        if first >= end {
-            return Ok(None);
-        }
-        let mut text = TextWriter::new(alloc);
-        for word in words.iter().take(end).skip(first) {
-            text.push_hex_bytes(&word.unwrap_or(0).to_le_bytes());
-        }
-        Ok(Some(CodeBytes {
-            offset: place.saturating_add(first.saturating_mul(4)) as u64,
-            bytes: text.finish()?,
-        }))
-    }
-
-    /// The bytes around an address in the memory of a node, if not all of them are known. They are known then.
+    /// Adds the blocks of memory around an address, if not all of their bytes are known. They are known then.
     pub fn tell(
         &mut self,
         alloc: Global,
         node: u8,
         memory: &Memory,
         address: u32,
-    ) -> Result<Option<CodeBytes>, NoMemory> {
+        changes: &mut FrameChanges,
+    ) -> Result<(), NoMemory> {
         let place = address.wrapping_sub(MEMORY_START) as usize;
         let Some(known) = self.nodes.get_mut(usize::from(node)) else {
-            return Ok(None);
+            return Ok(());
         };
         if place >= MOST_BYTES {
-            return Ok(None);
+            return Ok(());
         }
-        let start = place.saturating_sub(BEFORE);
-        let bytes = window(alloc, memory, start, place.saturating_add(BEHIND))?;
-        if !learn(known.as_mut_slice(), start, bytes.as_slice()) {
-            return Ok(None);
+        for block in place.saturating_sub(BEFORE) / BLOCK..=(place + BEHIND - 1) / BLOCK {
+            let start = block * BLOCK;
+            let bytes = window(alloc, memory, start, start + BLOCK)?;
+            if learn(known.as_mut_slice(), start, bytes.as_slice()) {
+                let address = MEMORY_START.wrapping_add(start as u32);
+                let name = format!(in alloc; "node {node} memory {address:08x}")?;
+                put(changes, alloc, name.as_str(), digits(alloc, bytes.as_slice())?)?;
+            }
         }
-        let mut text = TextWriter::new(alloc);
-        text.push_hex_bytes(bytes.as_slice());
-        Ok(Some(CodeBytes {
-            offset: start as u64,
-            bytes: text.finish()?,
-        }))
+        Ok(())
     }
 }

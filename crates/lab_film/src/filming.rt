@@ -2,12 +2,13 @@
 ghost use Rattle.std.specs.Prelude.{◌≡◌, length};
 
 use crate::NoMemory;
-use crate::changes::{FrameChanges, changes_of};
+use crate::changes::{FrameChanges, ShownFrame, changes_of};
 use crate::code::KnownCode;
 use crate::frame::{Frame, frame_of};
 use crate::json::{LineFrames, json_text, line_told};
 use crate::plan::plan_told;
 use crate::shot::{Shot, shot_of};
+use crate::sources::{SourceLine, write_sources};
 use crate::steps::next_steps;
 use plan_checker::AcceptedPlan;
 use record_following::{
@@ -33,7 +34,7 @@ struct Filming {
     alloc: Global,
     cursor: RecordCursor,
     known: KnownCode,
-    last: Frame,
+    last: ShownFrame,
     left: u64,
 }
 
@@ -53,6 +54,7 @@ impl Drop for Filming {
 impl Filming {
     // Makes this frame the last one, and returns what changed since the one before.
     fn turn_to(&mut self, frame: Frame) -> Result<FrameChanges, NoMemory> {
+        let frame = ShownFrame::of(self.alloc, frame)?;
         let changes = changes_of(
             self.alloc,
             &mut self.known,
@@ -186,7 +188,7 @@ fn write_first(
     alloc: Global,
     known: &mut KnownCode,
     replayed: &ReplayedDomain,
-    first: &Frame,
+    first: &ShownFrame,
     text: &mut TextWriter,
 ) -> Result<(), NoMemory> {
     let changes = changes_of(alloc, known, replayed, None, first)?;
@@ -199,9 +201,9 @@ fn first_told(
     alloc: Global,
     replayed: &mut ReplayedDomain,
     text: &mut TextWriter,
-) -> Result<(KnownCode, Frame), NoMemory> {
+) -> Result<(KnownCode, ShownFrame), NoMemory> {
     let mut known = KnownCode::none(alloc, replayed.part().nodes().len())?;
-    let first = frame_of(alloc, replayed)?;
+    let first = ShownFrame::of(alloc, frame_of(alloc, replayed)?)?;
     write_first(alloc, &mut known, replayed, &first, text)?;
     Ok((known, first))
 }
@@ -257,34 +259,38 @@ fn show_span<M: StepMeter>(
 {
     let mut cursor = RecordCursor::open(alloc, plan)?;
     apply_to(alloc, &mut cursor, lines, span.from, meter)?;
-    text.push(",\"first\":");
+    text.push(",\n\"first\":");
     let mut filming = begin(alloc, cursor, span.count, text)?;
-    text.push(",\"lines\":[");
+    text.push(",\n\"lines\":[");
     show_lines(&mut filming, lines, text, meter)?;
     text.push(if filming.goes_on(lines) {
-        "\n],\"goes_on\":true}"
+        "\n],\n\"goes_on\":true}\n"
     } else {
-        "\n],\"goes_on\":false}"
+        "\n],\n\"goes_on\":false}\n"
     });
     Ok(())
 }
 
-// Writes what the plan of a record says, and whether the record is cut off.
-fn show_plan(
+// Writes what the plan of a record says, the programs, and whether the record is cut off.
+fn show_head(
     alloc: Global,
     plan: &AcceptedPlan,
+    sources: &[SourceLine],
     is_cut: bool,
     text: &mut TextWriter,
 ) -> Result<(), NoMemory>
     requires { length plan.now ≡ 1 }
 {
     let plan = plan_told(alloc, plan)?;
-    text.push("{\"plan\":");
+    text.push("{\"version\":1,\n\"plan\":");
     text.push(json_text(serde_json::to_string(alloc, &plan))?.as_str());
+    text.push(",\n\"sources\":[");
+    write_sources(alloc, sources, text)?;
+    text.push("]");
     text.push(if is_cut {
-        ",\"is_cut\":true"
+        ",\n\"is_cut\":true"
     } else {
-        ",\"is_cut\":false"
+        ",\n\"is_cut\":false"
     });
     Ok(())
 }
@@ -292,21 +298,22 @@ fn show_plan(
 // The film of a record.
 fn film_of_record<M: StepMeter>(
     alloc: Global,
-    record: &Record,
+    followed: &Record,
+    sources: &[SourceLine],
     span: Span,
     meter: &mut M,
 ) -> Result<String, RecordStop>
-    requires { length record.now.plan ≡ 1 }
+    requires { length followed.now.plan ≡ 1 }
 {
     let mut film = TextWriter::new(alloc);
-    show_plan(alloc, &record.plan, record.is_cut, &mut film)?;
-    let lines = record.lines.as_slice();
-    show_span(alloc, &record.plan, lines, span, &mut film, meter)?;
+    show_head(alloc, &followed.plan, sources, followed.is_cut, &mut film)?;
+    let lines = followed.lines.as_slice();
+    show_span(alloc, &followed.plan, lines, span, &mut film, meter)?;
     Ok(film.finish()?)
 }
 
-/// A record in JSON, which the page shows: the plan of its domain, the domain where the film begins, and for each line of
-/// the span what it asks, what it is answered, and what it changes. Each Step is a frame of its own, except those in the
+/// A record in JSON, as docs/LAB.md describes it: the plan of its domain, lines of programs, the domain where the film begins, and
+/// for each line of the span what it asks, what it is answered, and what it changes. Each Step is a frame of its own, except those in the
 /// middle of a line of more than 1,000. What changes is found from the frames of the moments before and after it
 /// (`shot_of`).
 ///
@@ -317,9 +324,10 @@ fn film_of_record<M: StepMeter>(
 pub fn film_of<M: StepMeter>(
     alloc: Global,
     text: &[u8],
+    sources: &[SourceLine],
     span: Span,
     meter: &mut M,
 ) -> Result<String, RecordStop> {
     let record = read_record(alloc, text, u64::MAX)?;
-    film_of_record(alloc, &record, span, meter)
+    film_of_record(alloc, &record, sources, span, meter)
 }

@@ -117,8 +117,8 @@ fn word_in(memory: &Memory, address: u32) -> Option<u32>
     }
 }
 
-// The registers of a node that runs.
-fn registers_in(state: NodeState) -> Option<Cpu>
+/// The registers of a node that runs.
+pub fn registers_in(state: NodeState) -> Option<Cpu>
     ensures { result ≡ registers_in state }
 {
     match state {

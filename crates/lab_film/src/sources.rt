@@ -36,7 +36,7 @@ struct SourceTold {
     label: Option<String>,
     /// How many bytes after its label the line begins, and 0 if it has none.
     behind: u32,
-    #[serde(rename = "occamLine", skip_serializing_if = "Option::is_none")]
+    #[serde(skip_serializing_if = "Option::is_none")]
     occam_line: Option<u32>,
     #[serde(skip_serializing_if = "Option::is_none")]
     instance: Option<u32>,
@@ -62,34 +62,20 @@ fn source_told(alloc: Global, line: SourceLine) -> Result<SourceTold, NoMemory> 
     })
 }
 
-// Writes a text in JSON without `<`, which could end the element of the page in which it lies.
-fn push_without_tags(json: &str, text: &mut TextWriter) {
-    let mut rest = json;
-    for _ in 0..json.len() {
-        let Some((before, behind)) = rest.split_once("<") else {
-            break;
-        };
-        text.push(before);
-        text.push("\\u003c");
-        rest = behind;
-    }
-    text.push(rest);
-}
-
-/// Lines of programs in JSON, for `page_of`: those that have bytes.
-pub fn sources_of(alloc: Global, lines: &[SourceLine]) -> Result<String, NoMemory> {
-    let mut text = TextWriter::new(alloc);
-    text.push("[");
+/// Writes lines of programs in JSON, those that have bytes.
+pub fn write_sources(
+    alloc: Global,
+    lines: &[SourceLine],
+    text: &mut TextWriter,
+) -> Result<(), NoMemory> {
     let mut is_first = true;
     for line in lines {
         if line.length > 0 {
             text.push(if is_first { "\n" } else { ",\n" });
             is_first = false;
             let told = source_told(alloc, *line)?;
-            let json = json_text(serde_json::to_string(alloc, &told))?;
-            push_without_tags(json.as_str(), &mut text);
+            text.push(json_text(serde_json::to_string(alloc, &told))?.as_str());
         }
     }
-    text.push("]");
-    text.finish()
+    Ok(())
 }

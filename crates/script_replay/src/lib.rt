@@ -16,4 +16,4 @@ pub use asks::{AskedLine, UserLine};
 pub use fault::{ReplayFault, RunFault};
 pub use recording::record_of;
 pub use running::{record_script, run_script};
-pub use texts::{Replayed, ReplayedFarm, files_loaded, replay};
+pub use texts::{files_loaded, replay};

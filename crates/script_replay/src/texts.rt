@@ -4,9 +4,8 @@ use crate::answering::{AnsweredLines, answer_asked_lines};
 use crate::asks::AskedLine;
 use crate::fault::ReplayFault;
 use crate::reader::LineReader;
-use crossbar::{PORTS, Word};
 use event_text::{RepeatedRequest, read_request};
-use farm_replay::{AnsweredRequests, FarmStop, answer_requests};
+use farm_replay::{FarmStop, answer_requests};
 use lab_script::{LoadedFile, file_loaded};
 use lab_words::{Answered, NumberedLineFault, Question, read_questions};
 use plan_checker::{AcceptedPlan, accept_plan};
@@ -42,24 +41,6 @@ struct FarmText<'a> {
     lines: FarmLines<'a>,
 }
 
-/// A farm after the lines of its text.
-#[derive(Drop)]
-pub struct ReplayedFarm {
-    /// Its plan.
-    pub plan: AcceptedPlan,
-    /// The switch words of the 32 physical outputs.
-    pub words: [Word; PORTS as usize],
-}
-
-/// What came of a text.
-#[derive(Drop)]
-pub struct Replayed<'a> {
-    /// The answers to the lines of all farms, in order.
-    pub answers: Vec<Answered<'a>>,
-    /// The last farm, as its lines left it.
-    pub last: Option<ReplayedFarm>,
-}
-
 /// The names of the files that the lines of a text load, in their order.
 pub fn files_loaded(alloc: Global, text: &[u8]) -> Result<Vec<&str>, AllocError> {
     let mut names = Vec::new(alloc);
@@ -87,7 +68,7 @@ fn asked_part(line: &str) -> &str {
 }
 
 /// Replays a text: for each of its farms, which lines `===` divide, a plan, a line `---`, and lines that ask. All
-/// is read before any line asks; then each line has its answer, in order. A line that begins with the name of a user of the
+/// is read before any line asks; then the lines of all farms have their answers, in order. A line that begins with the name of a user of the
 /// plan is a line of the program, which may load these files. If that name is a number, `words` or `reopen`, a line with `@` and
 /// who asks as its last word, or with no verb of a user as its second, isn't that user's.
 ///
@@ -100,16 +81,13 @@ pub fn replay<'a, M: StepMeter>(
     text: &'a [u8],
     files: &[LoadedFile<'_>],
     meter: &mut M,
-) -> Result<Replayed<'a>, ReplayFault> {
+) -> Result<Vec<Answered<'a>>, ReplayFault> {
     let farms = read_farms(alloc, text, files)?;
-    let mut replayed = Replayed {
-        answers: Vec::new(alloc),
-        last: None,
-    };
+    let mut answers = Vec::new(alloc);
     for farm in farms {
-        replayed.last = Some(play(alloc, farm, &mut replayed.answers, meter)?);
+        play(alloc, farm, &mut answers, meter)?;
     }
-    Ok(replayed)
+    Ok(answers)
 }
 
 fn read_farms<'a>(
@@ -243,48 +221,47 @@ fn read_line<'a>(
     }
 }
 
-// Asks the farm of a text its lines, and gives it as they left it.
+// Asks the farm of a text its lines.
 fn play<'a, M: StepMeter>(
     alloc: Global,
     farm: FarmText<'a>,
     answers: &mut Vec<Answered<'a>>,
     meter: &mut M,
-) -> Result<ReplayedFarm, FarmStop> {
+) -> Result<(), FarmStop> {
     let FarmText {
         plan,
         questions,
         lines,
     } = farm;
-    let words = match lines {
+    let questions = questions.as_slice();
+    match lines {
         FarmLines::OfLab(requests) => {
             play_requests(
                 alloc,
                 &plan,
-                questions.as_slice(),
+                questions,
                 requests.as_slice(),
                 answers,
                 meter,
-            )?
+            )?;
         }
         FarmLines::Mixed { asked, counts } => {
-            let AnsweredLines { texts, mut farm } = answer_asked_lines(
+            let AnsweredLines { texts, farm: _ } = answer_asked_lines(
                 alloc,
                 &plan,
                 asked.as_slice(),
                 meter,
             )?;
-            let texts = texts.as_slice();
             share_out(
                 alloc,
-                questions.as_slice(),
+                questions,
                 counts.as_slice(),
-                texts,
+                texts.as_slice(),
                 answers,
             )?;
-            farm.words()
         }
-    };
-    Ok(ReplayedFarm { plan, words })
+    }
+    Ok(())
 }
 
 fn play_requests<'a, M: StepMeter>(
@@ -294,15 +271,15 @@ fn play_requests<'a, M: StepMeter>(
     requests: &[RepeatedRequest],
     answers: &mut Vec<Answered<'a>>,
     meter: &mut M,
-) -> Result<[Word; PORTS as usize], FarmStop> {
-    let AnsweredRequests { lines, words } = answer_requests(alloc, plan, requests, meter)?;
+) -> Result<(), FarmStop> {
+    let lines = answer_requests(alloc, plan, requests, meter)?;
     for (question, answer) in questions.iter().zip(lines) {
         answers.push(Answered {
             question: *question,
             answer,
         })?;
     }
-    Ok(words)
+    Ok(())
 }
 
 // Gives each line as many of the texts as it asked for.

@@ -1,28 +1,36 @@
-#!/usr/bin/env -S python3 -B
-"""Tries `lab film` in a real browser: each page is opened in Chromium without a window, asked what it shows, and compared with what
-`lab replay`, `lab why` and `lab disassemble` say of the same record. Debian's package chromium is installed if it isn't there.
+"""`lab film` in a real browser: each page is opened in Chromium without a window, asked what it shows, and compared with what
+`lab replay`, `lab why` and `lab disassemble` say of the same record. If the variable PICTURES names a folder, pictures of the pages are
+put there.
 
-usage: tests/film [FOLDER]    pictures of the pages are put into this folder
+One record is worked by hand, to its registers. Those of the examples and of the programs of examples/programs are made by `live`, and
+so is one of 100,000 events, whose page must be below 20 MB, open in less than two seconds and jump in less than 50 milliseconds."""
 
-One record is worked by hand, to its registers. Those of the examples and of the programs of examples/programs are made by `live`,
-and so is one of 100,000 events, whose page must be below 20 MB and open in less than two seconds. A line tells what each trial
-showed; the status is 1 if a trial failed. It takes a minute."""
+from __future__ import annotations
+
 import json
 import os
 import random
 import re
-import sys
-import tempfile
+import shutil
+import signal
+import subprocess
 import time
 import tomllib
+from collections.abc import Iterator
+from pathlib import Path
+from typing import Any
 
-from browser import Browser, PageFailed
+import pytest
+from browser import Browser
 from live_lines import PINGS, PINGS_PLAN, Live, wanted
-from trials import built, contents, examples, programs, run
+from trials import STORED, TOP, built, contents, run, scripts
 
+PICTURES = os.environ.get("PICTURES")
+PAGE = Path(TOP, "nadzsumek/film")
 MANY = 100_000
 MOST_BYTES = 20_000_000
 MOST_SECONDS = 2.0
+MOST_JUMP = 0.050
 SIZES = ((1280, 800), (1920, 1080))
 HEAD = """version = 3
 [[domain]]
@@ -55,44 +63,48 @@ CUT = """[...document.querySelectorAll("html, header, section, #lanes, #hosts, #
   .filter((it) => it.scrollWidth > it.clientWidth + 1).map((it) => it.tagName + " " + it.id + ": " + it.textContent.slice(0, 40))"""
 
 
-def lab(words, text=b""):
+def lab(words: list[str], text: bytes = b"") -> tuple[int | None, str, str]:
     status, out, errors = run([built("lab"), *words], text)
     return status, out.decode(), errors.decode()
+
+
+@pytest.fixture(name="browser", scope="module")
+def one_browser() -> Iterator[Browser]:
+    with Browser() as browser:
+        yield browser
 
 
 class Film:
     """The page of a record in a browser."""
 
-    def __init__(self, browser, folder, record, *words):
+    def __init__(self, browser: Browser, folder: Path, record: str, *words: str) -> None:
         self.browser, self.record = browser, record
-        path = f"{folder}/record.replay"
-        with open(path, "w", encoding="utf-8") as it:
-            it.write(record)
+        path = folder / "record.replay"
+        path.write_text(record, encoding="utf-8")
         begun = time.monotonic()
-        status, page, errors = lab(["film", path, *words])
+        status, page, errors = lab(["film", str(path), *words])
         self.made = time.monotonic() - begun
         wanted((status, errors), (0, ""))
         self.path, self.bytes = f"{folder}/page.html", len(page.encode())
-        with open(self.path, "w", encoding="utf-8") as it:
-            it.write(page)
+        Path(self.path).write_text(page, encoding="utf-8")
         self.opened = browser.open(self.path)
         self.is_well()
 
-    def is_well(self):
+    def is_well(self) -> None:
         if self.browser.faults:
             raise AssertionError(self.browser.faults)
 
-    def shown(self):
+    def shown(self) -> Any:
         self.is_well()
         return self.browser.look(SHOWN)
 
-    def press(self, *keys):
+    def press(self, *keys: str) -> Any:
         """Presses keys one after another, `+` before one that shift goes with: the event that is shown then."""
         for key in keys:
             self.browser.press(key.removeprefix("+"), key.startswith("+") or key.isupper())
         return self.shown()["event"]
 
-    def go(self, event):
+    def go(self, event: int) -> Any:
         """Goes to the frame after so many events, as a reader does it."""
         self.browser.look(
             f"""(() => {{ const it = document.getElementById("number"); it.value = "{event}";
@@ -100,14 +112,18 @@ class Film:
         )
         return self.shown()
 
-    def fits(self):
+    def fits(self) -> None:
         """Nothing is cut, in windows of two sizes."""
         for width, height in SIZES:
             self.browser.size(width, height)
             self.browser.look("new Promise((done) => requestAnimationFrame(() => requestAnimationFrame(done)))")
             wanted((width, self.browser.look(CUT)), (width, []))
 
-    def pictures(self, folder, name, event):
+    def pictures(self, name: str, event: int) -> None:
+        """Puts pictures into the folder of pictures, if there is one."""
+        if not PICTURES:
+            return
+        os.makedirs(PICTURES, exist_ok=True)
         for width, height in SIZES:
             for scheme in ("light", "dark"):
                 self.browser.colours(scheme)
@@ -115,24 +131,24 @@ class Film:
                 self.go(event)
                 tall = self.browser.look("document.documentElement.scrollHeight")
                 self.browser.size(width, max(height, tall))
-                self.browser.picture(f"{folder}/{name}-{width}-{scheme}.png")
+                self.browser.picture(f"{PICTURES}/{name}-{width}-{scheme}.png")
         self.browser.colours("light")
 
 
 # ---- records
 
 
-def divided(record):
+def divided(record: str) -> tuple[str, list[tuple[int, str]]]:
     """The head of a record, and its lines, each with the number of its events."""
     head, lines = record.split("---\n")
     return head, [(int(it.split()[0]) if " times " in it else 1, it) for it in lines.splitlines()]
 
 
-def events_in(record):
+def events_in(record: str) -> int:
     return sum(count for count, _ in divided(record)[1])
 
 
-def beginning(record, events):
+def beginning(record: str, events: int) -> str:
     """The record up to so many events."""
     head, lines = divided(record)
     kept, left = [], events
@@ -150,16 +166,18 @@ def beginning(record, events):
     return head + "---\n" + "".join(f"{it}\n" for it in kept)
 
 
-def spread(answer):
+def spread(answer: str) -> list[str]:
     """The answers of a line, each by itself: `2 00, 7f` are three."""
-    told = []
+    told: list[str] = []
     for part in answer.split(", "):
-        count, word = re.fullmatch(r"(?:(\d+) )?(\w+)", part).groups()
+        found = re.fullmatch(r"(?:(\d+) )?(\w+)", part)
+        assert found, answer
+        count, word = found.groups()
         told += [word] * int(count or 1)
     return told
 
 
-def asked(record, events, lines):
+def asked(record: str, events: int, lines: list[str]) -> list[str]:
     """What the domain answers after so many events, if its limit is far."""
     text = re.sub(r"^limit = \d+", "limit = 1099511627776", beginning(record, events), flags=re.M) + "".join(
         f"{it}\n" for it in lines
@@ -169,7 +187,7 @@ def asked(record, events, lines):
     return out.splitlines()[-len(lines) :]
 
 
-def owners(head):
+def owners(head: str) -> tuple[Any, list[tuple[int, int]]]:
     """The number of nodes, and for each host its user and its port."""
     domain = tomllib.loads(head)["domain"][0]
     hosts = [(user, port) for user, it in enumerate(domain["user"]) for port in it["host"]]
@@ -179,7 +197,7 @@ def owners(head):
 # ---- what a page shows beside what else is said of the record
 
 
-def is_as_replayed(film, events):
+def is_as_replayed(film: Film, events: int) -> Any:
     """A frame's nodes, words and hosts are those of the domain after so many events."""
     nodes, hosts = owners(divided(film.record)[0])
     lines = [f"0 look {it} @0" for it in range(len(nodes))] + ["words"]
@@ -196,11 +214,11 @@ def is_as_replayed(film, events):
     return shown
 
 
-def word_at(address):
+def word_at(address: str) -> str:
     return bytes.fromhex(address)[::-1].hex()
 
 
-def is_as_peeked(film, events, shown):
+def is_as_peeked(film: Film, events: int, shown: Any) -> int:
     """The bytes of code are those that peeks of the node find once it is reset, and their text is that of the disassembler. The
     answer is how many bytes were compared."""
     nodes, hosts = owners(divided(film.record)[0])
@@ -241,10 +259,117 @@ def is_as_peeked(film, events, shown):
     return count
 
 
-# ---- trials
+def json_of(page: str) -> Any:
+    """The film that lies in a page."""
+    found = re.search(r'<script id="film" type="application/json">(.*?)</script>', contents(page).decode(), re.DOTALL)
+    assert found
+    return json.loads(found[1])
 
 
-def worked_record():
+# ---- tests
+
+
+@pytest.mark.parametrize("script", sorted(it.name for it in PAGE.glob("*.js")))
+def test_scripts_are_read_by_a_second_reader(script: str) -> None:
+    """Node finds no mistake in the scripts of the page, if it is there."""
+    node = shutil.which("node", path="/usr/bin:/usr/local/bin") or pytest.skip("there is no node")
+    status, _, errors = run([node, "--check", str(PAGE / script)])
+    wanted((status, errors), (0, b""))
+
+
+def merge(facts: dict[str, Any], change: dict[str, Any]) -> None:
+    """Turns the facts of a frame to those of the next one, as docs/FILM.md says it."""
+    for name, it in change.items():
+        facts[name] = facts.get(name, "")[2 * it[0] :] + it[1] if isinstance(it, list) else it
+
+
+def test_json_as_replayed(tmp_path: Path) -> None:
+    """A reader of the JSON finds in each frame what `lab replay` answers of the domain after its events."""
+    record, path = worked_record(), tmp_path / "record.replay"
+    path.write_text(record, encoding="utf-8")
+    status, out, errors = lab(["film", str(path), "--json"])
+    wanted((status, errors), (0, ""))
+    film = json.loads(out)
+    wanted((film["version"], film["sources"], film["is_cut"], film["goes_on"]), (1, [], False, False))
+    facts = dict(film["first"])
+    frames = [dict(facts)]
+    for line in film["lines"]:
+        for change in line["then"]:
+            merge(facts, change)
+            frames.append(dict(facts))
+    wanted([it["events"] for it in frames], list(range(events_in(record) + 1)))
+    for event, it in enumerate(frames):
+        words = [(port["physical"], it[f"output {output} word"]) for output, port in enumerate(film["plan"]["ports"])]
+        shown = " ".join(f"{port}:{word}" for port, word in sorted(words) if word != "0") or "-"
+        look, told, read = asked(record, event, ["0 look 0 @0", "words", "4097 times 0 read 0 @0"])
+        received = "".join(byte for byte in spread(read) if byte != "none")
+        wanted((event, it["node 0 look"], shown, it.get("host 0 received", "")), (event, look, told, received))
+    # the handbook's Steps of the code, as in registers_by_hand; nothing runs before the boot has ended, nor when the node has halted
+    registers = [[it.get(f"node 0 {name}") for name in ("Iptr", "W", "A")] for it in frames]
+    wanted(
+        (registers[38], registers[45], registers[50]),
+        ([None] * 3, [0x8000004D, 0x80000060, 0x2A], [None] * 3),
+    )
+    wanted(frames[45]["node 0 memory 80000040"][16:32], CODE)
+
+
+def test_page_is_one_file(tmp_path: Path) -> None:
+    """The page asks for no other file, and a text of a program ends no element of it."""
+    record, source = tmp_path / "record.replay", tmp_path / "loop.s"
+    record.write_text(booted("b44701", []), encoding="utf-8")
+    source.write_text("ajw 4  -- </script><script>alert()</script>\nldc 7\nj 1\n", encoding="utf-8")
+    words = ["film", str(record), "--program", "0", str(source)]
+    status, page, errors = lab(words)
+    wanted((status, errors), (0, ""))
+    assert not re.search(r"<link|<script[^>]* src|https?://(?!www\.w3\.org/2000/svg)", page)
+    wanted((page.count("alert()"), page.count("<script>alert")), (1, 0))
+    (tmp_path / "page.html").write_text(page, encoding="utf-8")
+    wanted(json_of(f"{tmp_path}/page.html"), json.loads(lab([*words, "--json"])[1]))
+
+
+FAKE = """#!/bin/sh
+echo $$ > "$0.pid"
+case $2 in
+  help) echo 'Usage: lab film';;
+  long) while :; do sleep 0.01; done;;
+  wrong) echo wrong >&2; exit 4;;
+esac
+"""
+
+
+@pytest.fixture(name="fake")
+def fake_lab(tmp_path: Path) -> Path:
+    """A program in place of the lab."""
+    fake = tmp_path / "fake"
+    fake.write_text(FAKE, encoding="utf-8")
+    fake.chmod(0o755)
+    return fake
+
+
+def test_what_is_no_film_is_handed_on(fake: Path) -> None:
+    for word, ended in (("help", (0, b"Usage: lab film\n", b"")), ("wrong", (4, b"", b"wrong\n"))):
+        wanted(run([f"{TOP}/lab", "film", word], more={"LAB": str(fake)}), ended)
+
+
+@pytest.mark.parametrize("number", [signal.SIGINT, signal.SIGTERM])
+def test_a_signal_ends_the_program_too(fake: Path, number: signal.Signals) -> None:
+    """The command ends as the program would by the signal, and the program with it, and nothing is said."""
+    with subprocess.Popen(
+        [f"{TOP}/lab", "film", "long"],
+        env={**os.environ, "LAB": str(fake)},
+        stdout=subprocess.PIPE,
+        stderr=subprocess.PIPE,
+    ) as command:
+        pid = Path(f"{fake}.pid")
+        while not pid.exists() or not pid.read_text(encoding="utf-8").strip():
+            time.sleep(0.01)
+        command.send_signal(number)
+        wanted(command.communicate(timeout=10), (b"", b""))
+    wanted(command.returncode, -number)
+    assert not Path("/proc", pid.read_text(encoding="utf-8").strip()).exists()
+
+
+def worked_record() -> str:
     lines = [f"0 config {it} @0 = nothing" for it in ("01", "00", "07", "03")]
     for byte in bytes.fromhex("08" + CODE):
         lines += [
@@ -267,9 +392,10 @@ def worked_record():
     return HEAD + "".join(f"{it}\n" for it in lines)
 
 
-def registers_by_hand(browser, folder, pictures):
+@pytest.mark.browser
+def test_registers_by_hand(browser: Browser, tmp_path: Path) -> None:
     """Each Step of the code, as the handbook does it. The boot leaves W behind the 8 bytes of code, A and B 0 and C 80000010."""
-    film = Film(browser, folder, worked_record())
+    film = Film(browser, tmp_path, worked_record())
     rows = [
         (40, ["80000048", "80000050", "00000000", "00000000", "80000010", "00000000"], "ajw 4"),
         (41, ["80000049", "80000060", "00000000", "00000000", "80000010", "00000000"], "mint"),
@@ -339,21 +465,20 @@ def registers_by_hand(browser, folder, pictures):
     for event, name, it in queues:
         wanted((event, name, film.go(event)["queues"][f"{name}-0"]["bytes"]), (event, name, it.split()))
     halted = film.go(54)["nodes"][0]
-    why = lab(["why", f"{folder}/record.replay"])[1]
+    why = lab(["why", f"{tmp_path}/record.replay"])[1]
     told = re.search(r"It was at (\w+) in `(.*)`, with A (\w+), B (\w+), C (\w+), W (\w+) and Error 0", why).groups()
     wanted([halted["registers"][it] for it in ("Iptr", "A", "B", "C", "W")], [told[0], *told[2:]])
     wanted([it[2] for it in halted["rows"] if it[3] == "here"], [told[1]])
     wanted(halted["faults"], ["there is no operation of this code"])
     film.fits()
-    if pictures:
-        film.pictures(pictures, "worked", 47)
-        film.pictures(pictures, "halted", 50)
-    return f"{len(rows)} Steps, {len(looks)} states"
+    film.pictures("worked", 47)
+    film.pictures("halted", 50)
 
 
-def keys_and_jumps(browser, folder, _):
+@pytest.mark.browser
+def test_keys_and_jumps(browser: Browser, tmp_path: Path) -> None:
     """Every key, the buttons, the slider, a click on the time line, and the address."""
-    film = Film(browser, folder, worked_record())
+    film = Film(browser, tmp_path, worked_record())
     wanted(film.shown()["counts"], ["1", "1", "22"])
     wanted(film.shown()["text"], "The domain as it was opened.")
     wanted(
@@ -422,10 +547,10 @@ def keys_and_jumps(browser, folder, _):
     wanted(film.shown()["event"], 47)
     browser.open(film.path + "#event=last")
     wanted(film.shown()["event"], 54)
-    return f"{len(jumps)} bytes of hosts, a fault and a loss"
 
 
-def losses_by_overrun(browser, folder, pictures):
+@pytest.mark.browser
+def test_losses_by_overrun(browser: Browser, tmp_path: Path) -> None:
     """Two bytes for a node that takes none, whose acknowledges come from another node: the second is dropped."""
     head = HEAD.replace("]\n---", ",\n  { memory = 4096, links = [2, -1, -1, -1] }]\n---")
     # input 7 drives both outputs; node 1 alone takes Steps and acknowledges
@@ -447,7 +572,7 @@ def losses_by_overrun(browser, folder, pictures):
         "move 2 @farm = passed",
         "move 7 @farm = passed",
     ]
-    film = Film(browser, folder, head + "".join(f"0 {it}\n" for it in events))
+    film = Film(browser, tmp_path, head + "".join(f"0 {it}\n" for it in events))
     wanted(film.shown()["counts"][:2], ["0", "1"])
     wanted(film.press("l"), 16)
     shown = film.shown()
@@ -457,16 +582,15 @@ def losses_by_overrun(browser, folder, pictures):
         True,
     )
     film.fits()
-    if pictures:
-        film.pictures(pictures, "dropped", 16)
-    return "one byte"
+    film.pictures("dropped", 16)
 
 
-def windows(browser, folder, _):
+@pytest.mark.browser
+def test_windows(browser: Browser, tmp_path: Path) -> None:
     """`--from` and `--count`, and Steps that stand together: a loop of 5,000 Steps has 1,001 frames."""
-    whole = Film(browser, folder, worked_record())
+    whole = Film(browser, tmp_path, worked_record())
     looks = [whole.go(it) for it in range(43, 48)]
-    film = Film(browser, folder, worked_record(), "--from", "43", "--count", "4")
+    film = Film(browser, tmp_path, worked_record(), "--from", "43", "--count", "4")
     wanted(film.shown()["span"], "events 43 to 47. The record goes on: --from and --count show other events.")
     for event, look in zip(range(43, 48), looks):
         shown = film.go(event)
@@ -477,9 +601,9 @@ def windows(browser, folder, _):
                 wanted(shown[part], look[part])
     wanted(film.go(44)["text"], "line 48, the farm: Step 4 of 6, step 0 = ran")
     wanted([film.press("Home"), film.press("End"), film.press("f")], [43, 47, 47])
-    empty = Film(browser, folder, worked_record(), "--from", "1000")
+    empty = Film(browser, tmp_path, worked_record(), "--from", "1000")
     wanted((empty.shown()["event"], empty.shown()["span"]), (54, "events 54 to 54, the end of the record."))
-    cut = Film(browser, folder, worked_record() + "0 write 0 0")
+    cut = Film(browser, tmp_path, worked_record() + "0 write 0 0")
     wanted(cut.shown()["span"], "events 0 to 54, the end of the record. Its last line is cut, and was left out.")
     # nfix 0 and j -2, two bytes that go round for ever
     boots = [f"0 {it} @0 = nothing" for it in ("config 01", "config 00", "config 07", "config 03")]
@@ -490,7 +614,7 @@ def windows(browser, folder, _):
             "0 step 0 @farm = ran",
             "0 move 0 @farm = passed",
         ]
-    loop = Film(browser, folder, HEAD + "".join(f"{it}\n" for it in boots) + "5000 times 0 step 0 @farm = 5000 ran\n")
+    loop = Film(browser, tmp_path, HEAD + "".join(f"{it}\n" for it in boots) + "5000 times 0 step 0 @farm = 5000 ran\n")
     wanted(loop.go(5020)["event"], 5020)
     wanted(browser.look("last"), 20 + 1001)
     wanted(loop.go(4520)["text"], "line 28, the farm: Steps 501 to 4,500, together, of 5,000, step 0 = ran")
@@ -500,10 +624,9 @@ def windows(browser, folder, _):
         [loop.go(it)["nodes"][0]["registers"]["Iptr"] for it in (21, 22, 23, 520, 4520, 5020)],
         ["80000049", "8000004a", "80000049", "8000004a", "8000004a", "8000004a"],
     )
-    return f"{len(looks)} frames of a window"
 
 
-def refusals(_browser, folder, __):
+def test_refusals(tmp_path: Path) -> None:
     """What is no record is refused as `lab why` refuses it."""
     record = worked_record()
     first = HEAD.count("\n") + 1
@@ -522,7 +645,7 @@ def refusals(_browser, folder, __):
         put("0 word 0"),
         record.replace("6 ran", "5 ran"),
     ]
-    path = f"{folder}/wrong.replay"
+    path = f"{tmp_path}/wrong.replay"
     for text in rows:
         with open(path, "w", encoding="utf-8") as it:
             it.write(text)
@@ -533,83 +656,91 @@ def refusals(_browser, folder, __):
         if is_line:
             wanted(film[2].split(":")[0], told[2].split(":")[0])
     wanted(lab(["film", path])[2].split(":")[0], f"line {first + 40}")
-    nobody = f"{folder}/nobody.replay"
+    nobody = f"{tmp_path}/nobody.replay"
     wanted(lab(["film", nobody]), (6, "", f"{nobody}: it can't be read\n"))
     for words in (["film"], ["film", path, path], ["film", path, "--from", "x"], ["film", path, "--count", "-1"]):
         wanted(lab(words)[:2], (2, ""))
-    return f"{len(rows)} texts"
 
 
-def recorded(text):
+def recorded(text: bytes, folder: Path) -> list[tuple[str, str]]:
     """The records of the domains of a text for `farm`, whose lines a `live` is given one after another."""
     plan, _, script = text.decode("utf-8", "surrogateescape").partition("---\n")
-    with tempfile.TemporaryDirectory() as folder:
-        with Live(built("live"), plan, more=["--record", folder]) as live:
-            for line in script.splitlines():
-                live.say(line.encode("utf-8", "surrogateescape") + b"\n")
-                if line and not line.startswith("#"):
-                    live.hear()
-            wanted(live.end()[0], 0)
-        names = sorted(it for it in os.listdir(folder) if it.endswith(".replay"))
-        return [(it.removesuffix(".replay"), contents(f"{folder}/{it}").decode()) for it in names]
+    with Live(built("live"), plan, more=["--record", str(folder)]) as live:
+        for line in script.splitlines():
+            live.say(line.encode("utf-8", "surrogateescape") + b"\n")
+            if line and not line.startswith("#"):
+                live.hear()
+        wanted(live.end()[0], 0)
+    return [(it.stem, it.read_text(encoding="utf-8")) for it in sorted(folder.glob("*.replay"))]
 
 
-def examples_as_replayed(browser, folder, pictures):
-    """The record of each domain of each example: the last frame and three others, and its code beside peeks."""
-    records, frames, peeked, chance = 0, 0, 0, random.Random(1)
-    for name, text, _ in [*examples(), *programs(built("lab"))]:
-        for user, record in recorded(text):
-            film = Film(browser, folder, record)
-            events = events_in(record)
-            wanted(film.shown()["span"], f"events 0 to {events:,}, the end of the record.")
-            wanted(film.press("End"), events)
-            for event in [0, *sorted(chance.randint(0, events) for _ in range(3)), events]:
-                nearest = film.go(event)["event"]
-                shown = is_as_replayed(film, nearest)
-                frames += 1
-            peeked += is_as_peeked(film, events, shown)
-            film.fits()
-            records += 1
-            if pictures:
-                film.pictures(pictures, f"{name.replace('/', '-').replace(' ', '-')}-{user}", events // 2)
-    return f"{records} records, {frames} frames, {peeked} bytes of code"
+# Each example with the path of its text.
+EXAMPLES = {name: path for name, path, _ in scripts()} | {"the stored run": f"{STORED}/stdin"}
 
 
-def many_events(browser, folder, pictures):
+@pytest.mark.browser
+@pytest.mark.parametrize("name", EXAMPLES)
+def test_examples_as_replayed(browser: Browser, tmp_path: Path, name: str) -> None:
+    """The record of each domain of an example: the first frame, the last one and three others, and its code beside peeks."""
+    text = contents(EXAMPLES[name])
+    if "/" in name:
+        # its loads are spelled out
+        status, out, errors = lab(["expand", EXAMPLES[name]])
+        wanted((status, errors), (0, ""))
+        text = out.encode("utf-8", "surrogateescape")
+    records = tmp_path / "records"
+    records.mkdir()
+    found, chance = recorded(text, records), random.Random(name)
+    assert found
+    for user, record in found:
+        film = Film(browser, tmp_path, record)
+        events = events_in(record)
+        wanted(film.shown()["span"], f"events 0 to {events:,}, the end of the record.")
+        wanted(film.press("End"), events)
+        for event in [0, *sorted(chance.randint(0, events) for _ in range(3)), events]:
+            shown = is_as_replayed(film, film.go(event)["event"])
+        is_as_peeked(film, events, shown)
+        film.fits()
+        film.pictures(f"{name.replace('/', '-').replace(' ', '-')}-{user}", events // 2)
+
+
+def long_record(folder: Path) -> str:
+    """The record of two nodes that give bytes to one another, with some more than 100,000 events."""
+    path = folder / "bob.replay"
+    with Live(built("live"), PINGS_PLAN, more=["--record", str(folder)]) as live:
+        for line in PINGS:
+            live.ask(f"bob {line}")
+        until = time.monotonic() + 60
+        while events_in(contents(path).decode().rpartition("\n")[0] + "\n") < MANY + 10:
+            assert time.monotonic() < until, "the nodes don't go on"
+            live.ask("bob look 0")
+        live.process.kill()
+    return contents(path).decode().rpartition("\n")[0] + "\n"
+
+
+@pytest.mark.browser
+@pytest.mark.long
+def test_many_events(browser: Browser, tmp_path: Path) -> None:
     """Two nodes that give bytes to one another for ever."""
-    with tempfile.TemporaryDirectory() as records:
-        with Live(built("live"), PINGS_PLAN, more=["--record", records]) as live:
-            for line in PINGS:
-                live.ask(f"bob {line}")
-            until = time.monotonic() + 60
-            while events_in(contents(f"{records}/bob.replay").decode().rpartition("\n")[0] + "\n") < MANY + 10:
-                if time.monotonic() > until:
-                    raise AssertionError("the nodes don't go on")
-                live.ask("bob look 0")
-            live.process.kill()
-        whole = contents(f"{records}/bob.replay").decode().rpartition("\n")[0] + "\n"
-    film = Film(browser, folder, beginning(whole, MANY))
+    records = tmp_path / "records"
+    records.mkdir()
+    whole = long_record(records)
+    film = Film(browser, tmp_path, beginning(whole, MANY))
     wanted(film.press("End"), MANY)
     is_as_replayed(film, MANY)
-    frames = browser.look("last")
     opened = [film.opened, *(browser.open(film.path) for _ in range(2))]
-    steps = browser.look(
+    jump = browser.look(
         "(() => { const begun = performance.now(); for (let at = 0; at < 20; at += 1) go(last - at * 4999);"
-        " return (performance.now() - begun) / 20; })()"
+        " return (performance.now() - begun) / 20000; })()"
     )
-    drawn = film.shown()["arrows"]
+    told = f"{film.bytes / 1e6:.1f} MB, made in {film.made:.1f} s, opened in {min(opened):.2f} s, a jump in {jump * 1e3:.0f} ms"
+    print(told)
+    assert film.bytes < MOST_BYTES and min(opened) < MOST_SECONDS and jump < MOST_JUMP, told
+    assert film.shown()["arrows"] <= 1000
     film.fits()
-    if pictures:
-        film.pictures(pictures, "many", MANY // 2)
-    if film.bytes >= MOST_BYTES or min(opened) >= MOST_SECONDS or drawn > 1000:
-        raise AssertionError(f"{film.bytes:,} bytes, opened in {opened}, {drawn} pieces drawn")
-    goes_on = Film(browser, folder, whole)
-    if events_in(whole) > MANY + 10 and "The record goes on" not in goes_on.shown()["span"]:
-        raise AssertionError(goes_on.shown()["span"])
-    return (
-        f"{frames:,} frames, {film.bytes / 1e6:.1f} MB, made in {film.made:.1f} s, opened in {min(opened):.2f} s, "
-        f"a jump in {steps:.0f} ms"
-    )
+    film.pictures("many", MANY // 2)
+    goes_on = Film(browser, tmp_path, whole)
+    wanted("The record goes on" in goes_on.shown()["span"], events_in(whole) > browser.look("recordedAt(last)"))
 
 
 # ajw 8, ldc 2, ldlp -8 and startp, and then two loops of nfix 0 and j -2: the first process does the one at 8000004d, and starts
@@ -619,7 +750,7 @@ TWO_LOOPS = "b8426018fd600e600e"
 INTO_ZEROS = "b44701"
 
 
-def booted(code, lines):
+def booted(code: str, lines: list[str]) -> str:
     """A record of a node that is booted, in 8 events and 4 for each byte of its code, and lines behind that."""
     events = [f"0 config {it} @0 = nothing" for it in ("01", "00", "07", "03")]
     for byte in bytes([len(code) // 2]) + bytes.fromhex(code):
@@ -632,11 +763,12 @@ def booted(code, lines):
     return HEAD + "".join(f"{it}\n" for it in [*events, *lines])
 
 
-def processes_by_hand(browser, folder, pictures):
+@pytest.mark.browser
+def test_processes_by_hand(browser: Browser, tmp_path: Path) -> None:
     """A second process waits from the fifth Step on. The first has its slice behind 1,024 bytes of code, and waits behind it then."""
     film = Film(
         browser,
-        folder,
+        tmp_path,
         booted(TWO_LOOPS, ["1000 times 0 step 0 @farm = 1000 ran", "100 times 0 step 0 @farm = 100 ran"]),
     )
     one, other = "W 80000074 at 8000004d", "W 80000054 at 8000004f"
@@ -644,19 +776,18 @@ def processes_by_hand(browser, folder, pictures):
     for event, lines in rows.items():
         wanted((event, film.go(event)["nodes"][0]["lines"].get("waiting", [])), (event, lines))
     film.fits()
-    if pictures:
-        film.pictures(pictures, "processes", 44 + 1025)
-    return f"{len(rows)} moments"
+    film.pictures("processes", 44 + 1025)
 
 
-def zeros_by_hand(browser, folder, pictures):
+@pytest.mark.browser
+def test_zeros_by_hand(browser: Browser, tmp_path: Path) -> None:
     """A node that ran through zeros shows the code that led there. 20 events come before the first Step. It does 3 bytes of code,
     and zeros from 8000004c to the end of memory, 80001000; at 1,024 bytes it has its slice, and takes itself from the queue.
     """
     zeros = 0x80001000 - 0x8000004C
     film = Film(
         browser,
-        folder,
+        tmp_path,
         booted(INTO_ZEROS, [f"{3 + zeros} times 0 step 0 @farm = {3 + zeros} ran", "0 step 0 @farm = fault 1"]),
     )
     event = film.press("End")
@@ -664,18 +795,19 @@ def zeros_by_hand(browser, folder, pictures):
     outside = film.shown()["nodes"][0]["lines"]["outside"]
     wanted(outside[2:5], ["  80000048  ajw 4", "  80000049  ldc 7", "> 8000004a  j 1"])
     film.fits()
-    if pictures:
-        film.pictures(pictures, "zeros", event)
-    return f"{zeros} zeros"
+    film.pictures("zeros", event)
 
 
-def labels_and_lines(browser, folder, _):
+@pytest.mark.browser
+def test_labels_and_lines(browser: Browser, tmp_path: Path) -> None:
     """The lines of a program stand beside its code, with their labels. A comment may hold what would end an element of a page."""
     program = "        ajw 4      -- a </script> b\nloop:   ldc 7\n        j loop\n"
-    with open(f"{folder}/loop.s", "w", encoding="utf-8") as it:
+    with open(f"{tmp_path}/loop.s", "w", encoding="utf-8") as it:
         it.write(program)
     code = lab(["assemble"], program.encode())[1].strip()
-    film = Film(browser, folder, booted(code, ["2 times 0 step 0 @farm = 2 ran"]), "--program", "0", f"{folder}/loop.s")
+    film = Film(
+        browser, tmp_path, booted(code, ["2 times 0 step 0 @farm = 2 ran"]), "--program", "0", f"{tmp_path}/loop.s"
+    )
     # after the boot, which is 4 events and 4 for each byte, and one Step
     rows = [it[2:] for it in film.go(4 + 4 * (1 + len(code) // 2) + 1)["nodes"][0]["rows"] if it[4]]
     wanted(
@@ -687,13 +819,12 @@ def labels_and_lines(browser, folder, _):
         ],
     )
     film.fits()
-    for words in (["--program", "x", f"{folder}/loop.s"], ["--program", "0"]):
+    for words in (["--program", "x", f"{tmp_path}/loop.s"], ["--program", "0"]):
         wanted(lab(["film", film.path, *words])[:2], (2, ""))
-    with open(f"{folder}/wrong.s", "w", encoding="utf-8") as it:
+    with open(f"{tmp_path}/wrong.s", "w", encoding="utf-8") as it:
         it.write("hello\n")
-    status, page, errors = lab(["film", f"{folder}/record.replay", "--program", "0", f"{folder}/wrong.s"])
-    wanted((status, page, errors.startswith(f"{folder}/wrong.s: line 1, column 1: ")), (4, "", True))
-    return f"{len(rows)} rows"
+    status, page, errors = lab(["film", f"{tmp_path}/record.replay", "--program", "0", f"{tmp_path}/wrong.s"])
+    wanted((status, page, errors.startswith(f"{tmp_path}/wrong.s: line 1, column 1: ")), (4, "", True))
 
 
 # A program of occam that halts in the instance of line 9, and its code by the table of docs/OCCAM.md: ajw 3 at 80000048, sethalterr
@@ -712,13 +843,14 @@ SEQ
 OCCAM_CODE = "b325f8" "47d1" "7149f9a3" "21f002" "21f0" "21f5"
 
 
-def lines_of_occam(browser, folder, _):
+@pytest.mark.browser
+def test_lines_of_occam(browser: Browser, tmp_path: Path) -> None:
     """The number and the text of the line of occam stand beside each instruction, and where the node is. What is no process has none.
     4 events come before the boot, and 4 for each byte of it."""
-    with open(f"{folder}/check.occ", "w", encoding="utf-8") as it:
+    with open(f"{tmp_path}/check.occ", "w", encoding="utf-8") as it:
         it.write(OCCAM)
     record = booted(OCCAM_CODE, ["10 times 0 step 0 @farm = 10 ran", "0 step 0 @farm = fault 3"])
-    film = Film(browser, folder, record, "--program", "0", f"{folder}/check.occ")
+    film = Film(browser, tmp_path, record, "--program", "0", f"{tmp_path}/check.occ")
     first = 4 + 4 * (1 + len(OCCAM_CODE) // 2)
     node = film.go(first)["nodes"][0]
     wanted(node["occam"], [])
@@ -744,9 +876,9 @@ def lines_of_occam(browser, folder, _):
     node = film.shown()["nodes"][0]
     wanted((halted, node["occam"]), (first + 11, ["line 3 (9): IF"]))
     wanted([it[2:] for it in node["rows"] if it[-1] == "here"], [["seterr", *compared, "here"]])
-    sources = json.loads(re.search(r'id="sources"[^>]*>(.*?)</script>', contents(film.path).decode(), re.DOTALL)[1])
+    sources = json_of(film.path)["sources"]
     wanted(
-        [(it["address"], it["length"], it["occamLine"], it.get("instance"), it["text"].strip()) for it in sources],
+        [(it["address"], it["length"], it["occam_line"], it.get("instance"), it["text"].strip()) for it in sources],
         [
             (0x8000004B, 2, 8, None, assigned[1]),
             (0x8000004D, 4, 3, 9, "IF"),
@@ -755,13 +887,13 @@ def lines_of_occam(browser, folder, _):
         ],
     )
     film.fits()
-    return f"{len(sources)} pieces of code"
 
 
-def names_whole(browser, folder, _):
+@pytest.mark.browser
+def test_names_whole(browser: Browser, tmp_path: Path) -> None:
     """The name of a user stands whole before the lane of the host, and hosts stand above nodes."""
     name = "bea-mullerstein-of-hall-c"
-    film = Film(browser, folder, worked_record().replace('"ann"', f'"{name}"'))
+    film = Film(browser, tmp_path, worked_record().replace('"ann"', f'"{name}"'))
     texts = browser.look("[...document.querySelectorAll('#lanes text')].map((it) => it.textContent)")
     wanted(f"host 0 {name}" in texts, True)
     for width, height in SIZES:
@@ -769,42 +901,3 @@ def names_whole(browser, folder, _):
         tops = browser.look("['hosts', 'nodes'].map((it) => document.getElementById(it).getBoundingClientRect().top)")
         wanted(tops[0] <= tops[1], True)
     film.fits()
-    return name
-
-
-TRIALS = (
-    registers_by_hand,
-    processes_by_hand,
-    zeros_by_hand,
-    labels_and_lines,
-    lines_of_occam,
-    names_whole,
-    keys_and_jumps,
-    losses_by_overrun,
-    windows,
-    refusals,
-    examples_as_replayed,
-    many_events,
-)
-
-
-def main(words):
-    if len(words) > 1 or any(it.startswith("-") for it in words):
-        sys.exit(__doc__)
-    pictures = os.path.abspath(words[0]) if words else None
-    if pictures:
-        os.makedirs(pictures, exist_ok=True)
-    wrong = 0
-    with Browser() as browser, tempfile.TemporaryDirectory() as folder:
-        for trial in TRIALS:
-            try:
-                print(f"{trial.__name__}: {trial(browser, folder, pictures)}", flush=True)
-            except (AssertionError, PageFailed) as failure:
-                wrong += 1
-                print(f"{trial.__name__}: FAILED: {failure}", flush=True)
-    print(f"{len(TRIALS)} trials, {wrong} wrong")
-    return 1 if wrong else 0
-
-
-if __name__ == "__main__":
-    sys.exit(main(sys.argv[1:]))

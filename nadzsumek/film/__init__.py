@@ -1,0 +1,1 @@
+"""The page on which a browser shows a film of a record."""

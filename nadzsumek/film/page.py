@@ -1,0 +1,80 @@
+"""Makes the page of `lab film`. The program prints a film as JSON, and here it becomes one file for a browser, which asks for no other:
+the page of this folder with its style, its scripts and the film in their places."""
+
+from __future__ import annotations
+
+import os
+import re
+import signal
+import sys
+from collections.abc import Callable
+from typing import NoReturn
+
+FOLDER = os.path.dirname(os.path.abspath(__file__))
+# What a film begins with. The help of the program doesn't, and is printed as it is.
+BEGINS = b'{"version":1,'
+OUTSIDE = re.compile(rb'<link rel="stylesheet" href="(?P<style>[^"]+)">|<script src="(?P<script>[^"]+)"></script>')
+PLACE = b'<script id="film" type="application/json">'
+# These end the program, and are to end this process in the same way.
+SIGNALS = (signal.SIGINT, signal.SIGTERM, signal.SIGHUP)
+
+
+def contents(name: str) -> bytes:
+    """A file of this folder."""
+    with open(os.path.join(FOLDER, name), "rb") as it:
+        return it.read()
+
+
+def put_inside(link: re.Match[bytes]) -> bytes:
+    """The style or the script that a link of the page names."""
+    if name := link["style"]:
+        return b"<style>\n" + contents(name.decode()) + b"</style>"
+    return b"<script>\n" + contents(link["script"].decode()) + b"</script>"
+
+
+def page_of(film: bytes) -> bytes:
+    """The page of a film. In JSON `<` is in texts alone, where it may be written so that it ends no element of the page."""
+    before, behind = OUTSIDE.sub(put_inside, contents("page.html")).split(PLACE)
+    return before + PLACE + film.replace(b"<", b"\\u003c") + behind
+
+
+def end_as(status: int) -> NoReturn:
+    """Ends this process as a child ended, by its status or by its signal."""
+    if os.WIFSIGNALED(status):
+        signal.signal(os.WTERMSIG(status), signal.SIG_DFL)
+        os.kill(os.getpid(), os.WTERMSIG(status))
+    os._exit(os.waitstatus_to_exitcode(status))
+
+
+def print_whole(text: bytes) -> None:
+    """Writes to standard output. The program says `io` and ends with status 6 if it can't, and so does this."""
+    try:
+        while text:
+            text = text[os.write(1, text) :]
+    except OSError:
+        print("io", file=sys.stderr)
+        sys.exit(6)
+
+
+def run_beside(start: Callable[[], NoReturn]) -> NoReturn:
+    """Has a child become the program, and prints the page of the film that it prints. What else it prints is printed as it is."""
+    films, told = os.pipe()
+    # A signal that comes between these lines waits until it can be passed on.
+    signal.pthread_sigmask(signal.SIG_BLOCK, SIGNALS)
+    if (child := os.fork()) == 0:
+        signal.pthread_sigmask(signal.SIG_UNBLOCK, SIGNALS)
+        os.dup2(told, 1)
+        os.close(told)
+        os.close(films)
+        start()
+    os.close(told)
+    kept = {it: signal.signal(it, lambda number, _: os.kill(child, number)) for it in SIGNALS}
+    signal.pthread_sigmask(signal.SIG_UNBLOCK, SIGNALS)
+    with open(films, "rb") as it:
+        film = it.read()
+    status = os.waitpid(child, 0)[1]
+    for number, before in kept.items():
+        signal.signal(number, signal.SIG_IGN if before == signal.SIG_IGN else signal.SIG_DFL)
+    if status == 0:
+        print_whole(page_of(film) if film.startswith(BEGINS) else film)
+    end_as(status)
