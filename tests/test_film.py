@@ -277,14 +277,18 @@ def test_scripts_are_read_by_a_second_reader(script: str) -> None:
     wanted((status, errors), (0, b""))
 
 
-def merge(facts: dict[str, Any], change: dict[str, Any]) -> None:
-    """Turns the facts of a frame to those of the next one, as docs/FILM.md says it."""
-    for name, it in change.items():
-        facts[name] = facts.get(name, "")[2 * it[0] :] + it[1] if isinstance(it, list) else it
+def documented_merge() -> Any:
+    """The function `merge` of docs/FILM.md."""
+    found = re.search(r"```python\n(def merge.*?)```", Path(TOP, "docs/FILM.md").read_text(encoding="utf-8"), re.DOTALL)
+    assert found
+    there: dict[str, Any] = {}
+    exec(found[1], there)
+    return there["merge"]
 
 
 def test_json_as_replayed(tmp_path: Path) -> None:
-    """A reader of the JSON finds in each frame what `lab replay` answers of the domain after its events."""
+    """A reader who does as docs/FILM.md says finds in each frame what `lab replay` answers of the domain after its events."""
+    merge = documented_merge()
     record, path = worked_record(), tmp_path / "record.replay"
     path.write_text(record, encoding="utf-8")
     status, out, errors = lab(["film", str(path), "--json"])

@@ -57,7 +57,7 @@ function frameOfEvent(event) {
 const REGISTERS = ["Iptr", "W", "A", "B", "C", "O", "Error"];
 const NODES = plan.nodes.map((_, number) => {
   const name = "node " + number + " ";
-  return { name, look: name + "look", registers: REGISTERS.map((it) => [it, name + it]) };
+  return { name, look: name + "look", registers: REGISTERS.map((it) => [it, name + it]), blocks: [] };
 });
 
 // A value that is an array is the change of a queue: so many bytes leave its front, and these come to its end.
@@ -84,7 +84,9 @@ function workspaceOf(facts, number) {
 
 // The byte of a node's memory that has `place` bytes before it, if it is known.
 function byteAt(facts, number, place) {
-  const block = facts[NODES[number].name + "memory " + hex(START + place - (place & 15), 8)], digit = 2 * (place & 15);
+  const { name, blocks } = NODES[number], at = place >> 4, digit = 2 * (place & 15);
+  // a name is made once, since a film of many Steps asks for few of them again and again
+  const block = facts[(blocks[at] ||= name + "memory " + hex(START + 16 * at, 8))];
   return block !== undefined && digit < block.length ? parseInt(block.slice(digit, digit + 2), 16) : undefined;
 }
 
@@ -183,8 +185,13 @@ function noteWords(change) {
   }
 }
 
-const overruns = (look) => look.split(" ").slice(-4).reduce((sum, word) => sum + Number(word), 0);
-const hasMore = (change, facts) => NODES.some(({ look }) => change[look] !== undefined && overruns(change[look]) > overruns(facts[look]));
+// Whether a change has more bytes that a link dropped than a node had before.
+const overruns = (look) => look.slice(look.indexOf(" overruns "));
+const counted = (look) => overruns(look).split(" ").reduce((sum, word) => sum + (Number(word) || 0), 0);
+const hasMore = (change, facts) => NODES.some(({ look }) => {
+  const now = change[look], before = facts[look];
+  return now !== undefined && overruns(now) !== overruns(before) && counted(now) > counted(before);
+});
 
 function noteLine(number, frame, isOverrun) {
   const line = lines[number], { verb, number: of, byte } = asked[number];
