@@ -301,7 +301,7 @@ def test_json_as_replayed(tmp_path: Path) -> None:
         for change in line["then"]:
             merge(facts, change)
             frames.append(dict(facts))
-    wanted([it["events"] for it in frames], list(range(events_in(record) + 1)))
+    wanted([it["recorded"] for it in frames], list(range(events_in(record) + 1)))
     for event, it in enumerate(frames):
         words = [(port["physical"], it[f"output {output} word"]) for output, port in enumerate(film["plan"]["ports"])]
         shown = " ".join(f"{port}:{word}" for port, word in sorted(words) if word != "0") or "-"

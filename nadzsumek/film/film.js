@@ -28,7 +28,7 @@ lines.forEach((line, number) => {
 });
 const last = changes.length;
 const lastFrame = (number) => firstFrame[number] + lines[number].then.length - 1;
-const recordedAt = (frame) => (frame === 0 ? film.first : changes[frame - 1]).events;
+const recordedAt = (frame) => (frame === 0 ? film.first : changes[frame - 1]).recorded;
 
 // in an ascending list, the last place whose number is at most the given one, or -1
 function lastUpTo(list, number) {

@@ -3,8 +3,8 @@
 use crate::arguments::arg_of;
 use crate::failure::{ArgumentFault, LabFailure, WRONG_WORDS};
 use crate::request::{
-    AssemblyOptions, BootOptions, BootedCode, Debugging, Explaining, LabRequest,
-    NodeRequest, OccamForm, OccamRequest, RowFiles, ScriptUse, Showing, TracedScript,
+    AssemblyOptions, BootOptions, BootedCode, Debugging, Explaining, LabRequest, NodeRequest,
+    OccamForm, OccamRequest, RowFiles, ScriptUse, Showing, TracedScript,
 };
 use crate::subcommand::{SUBCOMMANDS, Subcommand};
 use clap::error::ErrorKind;

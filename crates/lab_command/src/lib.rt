@@ -18,6 +18,6 @@ pub use files::{read_file, readable_bytes};
 pub use meter::TerminalMeter;
 pub use report::{Report, end_with, print_answers};
 pub use request::{
-    AssemblyOptions, BootOptions, BootedCode, Debugging, Explaining, LabRequest,
-    NodeRequest, OccamForm, OccamRequest, RowFiles, ScriptUse, Showing, TracedScript,
+    AssemblyOptions, BootOptions, BootedCode, Debugging, Explaining, LabRequest, NodeRequest,
+    OccamForm, OccamRequest, RowFiles, ScriptUse, Showing, TracedScript,
 };

@@ -9,6 +9,9 @@ use script_text::TextWriter;
 use serde_json::{Map, Value, json, put};
 use std::alloc::Global;
 
+/// The names of a host's queues.
+const QUEUES: [&str; 2] = ["sending", "received"];
+
 /// What changed, each by its name.
 pub type FrameChanges = Map<String, Value>;
 
@@ -45,16 +48,17 @@ impl ShownFrame {
 
 // How a queue changed: the digits of the bytes that came, after the least number of bytes that can have left.
 fn queue_change(alloc: Global, old: &[u8], new: &[u8]) -> Result<Value, NoMemory> {
-    let mut change = (old.len(), new);
-    for left in 0..old.len() {
-        if let Some(came) = new.strip_prefix(&old[left..]) {
-            change = (left, came);
+    let (mut left, mut came) = (old.len(), new);
+    for front in 0..old.len() {
+        if let Some(rest) = new.strip_prefix(&old[front..]) {
+            (left, came) = (front, rest);
             break;
         }
     }
     let mut text = TextWriter::new(alloc);
-    text.push_hex_bytes(change.1);
-    json!(in alloc; [change.0 as u64, text.finish()?])
+    text.push_hex_bytes(came);
+    let digits = text.finish()?;
+    json!(in alloc; [left as u64, digits])
 }
 
 // Adds what changed of the hosts' queues.
@@ -70,10 +74,11 @@ fn add_queues(
             Some(old) => old.queues(host),
             None => [&[], &[]],
         };
-        for (place, name) in ["sending", "received"].into_iter().enumerate() {
+        for place in 0..2usize {
             if before[place] != after[place] {
-                let name = format!(in alloc; "host {host} {name}")?;
-                put(changes, alloc, name.as_str(), queue_change(alloc, before[place], after[place])?)?;
+                let name = format!(in alloc; "host {host} {}", QUEUES[place])?;
+                let change = queue_change(alloc, before[place], after[place])?;
+                put(changes, alloc, name.as_str(), change)?;
             }
         }
     }
@@ -109,14 +114,16 @@ pub fn changes_of(
     new: &ShownFrame,
 ) -> Result<FrameChanges, NoMemory> {
     let mut changes = Map::new(alloc);
-    put(&mut changes, alloc, "events", Value::from(new.frame.recorded))?;
+    let recorded = Value::from(new.frame.recorded);
+    put(&mut changes, alloc, "recorded", recorded)?;
     for (place, leaf) in new.leaves.iter().enumerate() {
         let before = match old {
             Some(old) => old.leaves.get(place),
             None => None,
         };
         if !leaf.is_told_by(before) {
-            put(&mut changes, alloc, leaf.name(alloc)?.as_str(), leaf.value(alloc)?)?;
+            let name = leaf.name(alloc)?;
+            put(&mut changes, alloc, name.as_str(), leaf.value(alloc)?)?;
         }
     }
     add_queues(alloc, old, new, &mut changes)?;

@@ -8,14 +8,11 @@ use script_text::TextWriter;
 use serde_json::{Value, put};
 use std::alloc::Global;
 
-/// How many bytes before the instruction pointer a film has at least.
-const BEFORE: usize = 16;
-
-/// How many bytes from the instruction pointer on a film has at least.
-const BEHIND: usize = 32;
-
 /// How many bytes are written together.
-const BLOCK: usize = 16;
+const BLOCK: u32 = 16;
+
+/// How many blocks a film has: one block before that of the instruction pointer at least, and 32 bytes from it on.
+const BLOCKS: u32 = 4;
 
 /// The most bytes that a memory has.
 const MOST_BYTES: usize = 65_536;
@@ -26,17 +23,12 @@ pub struct KnownCode {
     nodes: Vec<Vec<Option<u8>>>,
 }
 
-// The byte of a memory that has `offset` bytes before it.
-fn byte_at(memory: &Memory, offset: usize) -> Option<u8> {
-    let offset = u32::try_from(offset).ok()?;
-    memory.byte(MEMORY_START.wrapping_add(offset)).ok()
-}
-
-// The bytes of a memory from one place up to another, those outside left out.
-fn window(alloc: Global, memory: &Memory, start: usize, end: usize) -> Result<Vec<u8>, NoMemory> {
+// The bytes of a block of memory that begins at an offset, those outside memory left out.
+fn bytes_of_block(alloc: Global, memory: &Memory, start: u32) -> Result<Vec<u8>, NoMemory> {
     let mut bytes = Vec::new(alloc);
-    for offset in start..end {
-        if let Some(byte) = byte_at(memory, offset) {
+    for place in 0..BLOCK {
+        let offset = start.saturating_add(place);
+        if let Ok(byte) = memory.byte(MEMORY_START.wrapping_add(offset)) {
             bytes.push(byte)?;
         }
     }
@@ -81,20 +73,26 @@ impl KnownCode {
         address: u32,
         changes: &mut FrameChanges,
     ) -> Result<(), NoMemory> {
-        let place = address.wrapping_sub(MEMORY_START) as usize;
+        let place = address.wrapping_sub(MEMORY_START);
         let Some(known) = self.nodes.get_mut(usize::from(node)) else {
             return Ok(());
         };
-        if place >= MOST_BYTES {
+        if place as usize >= MOST_BYTES {
             return Ok(());
         }
-        for block in place.saturating_sub(BEFORE) / BLOCK..=(place + BEHIND - 1) / BLOCK {
-            let start = block * BLOCK;
-            let bytes = window(alloc, memory, start, start + BLOCK)?;
-            if learn(known.as_mut_slice(), start, bytes.as_slice()) {
-                let address = MEMORY_START.wrapping_add(start as u32);
+        let first = place.saturating_sub(BLOCK) / BLOCK;
+        for block in 0..BLOCKS {
+            let start = first.saturating_add(block).saturating_mul(BLOCK);
+            let bytes = bytes_of_block(alloc, memory, start)?;
+            if learn(known.as_mut_slice(), start as usize, bytes.as_slice()) {
+                let address = MEMORY_START.wrapping_add(start);
                 let name = format!(in alloc; "node {node} memory {address:08x}")?;
-                put(changes, alloc, name.as_str(), digits(alloc, bytes.as_slice())?)?;
+                put(
+                    changes,
+                    alloc,
+                    name.as_str(),
+                    digits(alloc, bytes.as_slice())?,
+                )?;
             }
         }
         Ok(())

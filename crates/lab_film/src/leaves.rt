@@ -14,9 +14,7 @@ use std::alloc::Global;
 const REGISTERS: [&str; 7] = ["Iptr", "W", "A", "B", "C", "O", "Error"];
 
 /// The names of the words from the workspace on.
-const WORKSPACE: [&str; 8] = [
-    "W+0", "W+4", "W+8", "W+12", "W+16", "W+20", "W+24", "W+28",
-];
+const WORKSPACE: [&str; 8] = ["W+0", "W+4", "W+8", "W+12", "W+16", "W+20", "W+24", "W+28"];
 
 /// The names of the processes that wait for the processor.
 const WAITING: [&str; 4] = ["waiting 0", "waiting 1", "waiting 2", "waiting 3"];
@@ -51,24 +49,29 @@ pub struct Leaf {
     told: Told,
 }
 
-// A number, if there is one.
-fn number(number: Option<u32>) -> Told {
-    match number {
-        Some(number) => Told::Number(number),
+fn word_told(word: Option<u32>) -> Told {
+    match word {
+        Some(word) => Told::Number(word),
         None => Told::Nothing,
     }
 }
 
-// A byte, if there is one.
-fn byte(byte: Option<u8>) -> Told {
+fn byte_told(byte: Option<u8>) -> Told {
     match byte {
         Some(byte) => Told::Number(u32::from(byte)),
         None => Told::Nothing,
     }
 }
 
+fn process_told(process: Option<Process>) -> Told {
+    match process {
+        Some(process) => Told::Process(process),
+        None => Told::Nothing,
+    }
+}
+
 // How many there are, if there are some.
-fn count(count: u32) -> Told {
+fn count_told(count: u32) -> Told {
     if count > 0 {
         Told::Number(count)
     } else {
@@ -76,7 +79,7 @@ fn count(count: u32) -> Told {
     }
 }
 
-fn truth(is_so: bool) -> Told {
+fn truth_told(is_so: bool) -> Told {
     if is_so { Told::Truth } else { Told::Nothing }
 }
 
@@ -99,79 +102,62 @@ fn registers_told(node: &NodeFrame) -> [Told; 7] {
 // What is under way at a link.
 fn link_told(link: &Link) -> [(&'static str, Told); 8] {
     [
-        ("sends", byte(link.end.latch.byte)),
-        ("acknowledges", truth(link.end.latch.acknowledge)),
-        ("holds", byte(link.end.input.buffer)),
-        ("awaits", truth(link.end.output.awaits)),
-        ("acknowledged", truth(link.end.output.acknowledged)),
-        ("watched", truth(link.watched)),
-        ("wanted", count(link.input_count)),
-        ("left", count(link.output_count)),
+        ("sends", byte_told(link.end.latch.byte)),
+        ("acknowledges", truth_told(link.end.latch.acknowledge)),
+        ("holds", byte_told(link.end.input.buffer)),
+        ("awaits", truth_told(link.end.output.awaits)),
+        ("acknowledged", truth_told(link.end.output.acknowledged)),
+        ("watched", truth_told(link.watched)),
+        ("wanted", count_told(link.input_count)),
+        ("left", count_told(link.output_count)),
     ]
 }
 
-fn add_links(
+fn add(
     leaves: &mut Vec<Leaf>,
-    node: u8,
-    links: &[Link; 4],
+    subject: Subject,
+    name: &'static str,
+    told: Told,
 ) -> Result<(), NoMemory> {
-    for (number, link) in (0u8..4).zip(links.iter()) {
-        let subject = Subject::Link { node, link: number };
-        for (name, told) in link_told(link) {
-            leaves.push(Leaf {
-                subject,
-                name,
-                told,
-            })?;
-        }
-    }
+    leaves.push(Leaf {
+        subject,
+        name,
+        told,
+    })?;
     Ok(())
 }
 
-fn add_node(leaves: &mut Vec<Leaf>, node: u8, frame: &NodeFrame) -> Result<(), NoMemory> {
-    let subject = Subject::Node(node);
-    leaves.push(Leaf {
-        subject,
-        name: "look",
-        told: Told::Look(frame.seen),
-    })?;
-    for (name, told) in REGISTERS.into_iter().zip(registers_told(frame)) {
-        leaves.push(Leaf {
-            subject,
-            name,
-            told,
-        })?;
+fn add_node(leaves: &mut Vec<Leaf>, number: u8, node: &NodeFrame) -> Result<(), NoMemory> {
+    let subject = Subject::Node(number);
+    add(leaves, subject, "look", Told::Look(node.seen))?;
+    for (name, told) in REGISTERS.into_iter().zip(registers_told(node)) {
+        add(leaves, subject, name, told)?;
     }
-    for (name, word) in WORKSPACE.into_iter().zip(frame.workspace) {
-        leaves.push(Leaf {
-            subject,
-            name,
-            told: number(word),
-        })?;
+    for (name, word) in WORKSPACE.into_iter().zip(node.workspace) {
+        add(leaves, subject, name, word_told(word))?;
     }
-    for (name, process) in WAITING.into_iter().zip(frame.waiting) {
-        let told = match process {
-            Some(process) => Told::Process(process),
-            None => Told::Nothing,
-        };
-        leaves.push(Leaf {
-            subject,
-            name,
-            told,
-        })?;
+    for (name, process) in WAITING.into_iter().zip(node.waiting) {
+        add(leaves, subject, name, process_told(process))?;
     }
-    add_links(leaves, node, &frame.links)
+    for (link, at) in (0u8..4).zip(node.links.iter()) {
+        let subject = Subject::Link { node: number, link };
+        for (name, told) in link_told(at) {
+            add(leaves, subject, name, told)?;
+        }
+    }
+    Ok(())
 }
 
 /// What a frame tells of the switch and the nodes. Frames of one domain have the same names at the same places.
 pub fn leaves_of(alloc: Global, frame: &Frame) -> Result<Vec<Leaf>, NoMemory> {
     let mut leaves = Vec::new(alloc);
     for (output, word) in (0u8..32).zip(frame.words.iter()) {
-        leaves.push(Leaf {
-            subject: Subject::Output(output),
-            name: "word",
-            told: Told::Word(*word),
-        })?;
+        add(
+            &mut leaves,
+            Subject::Output(output),
+            "word",
+            Told::Word(*word),
+        )?;
     }
     for (number, node) in (0u8..8).zip(frame.nodes.iter()) {
         if let Some(node) = node {

@@ -236,14 +236,7 @@ fn play<'a, M: StepMeter>(
     let questions = questions.as_slice();
     match lines {
         FarmLines::OfLab(requests) => {
-            play_requests(
-                alloc,
-                &plan,
-                questions,
-                requests.as_slice(),
-                answers,
-                meter,
-            )?;
+            play_requests(alloc, &plan, questions, requests.as_slice(), answers, meter)?;
         }
         FarmLines::Mixed { asked, counts } => {
             let AnsweredLines { texts, farm: _ } = answer_asked_lines(
