@@ -2,7 +2,7 @@
 that its answer comes here alone, whoever else speaks as this user."""
 import collections
 
-from nadzsumek.serving.verbs import goes_on
+from nadzsumek.mistakes.verbs import goes_on
 
 from .failures import NoFarm
 from .results import note_of

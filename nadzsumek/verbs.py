@@ -5,7 +5,7 @@ import time
 
 from nadzsumek.serving.orders import lines_of, loading
 from nadzsumek.serving.texts import quoted
-from nadzsumek.serving.verbs import Wrong
+from nadzsumek.mistakes.verbs import Wrong
 
 from .failures import FarmError
 from .results import Loaded, result_of

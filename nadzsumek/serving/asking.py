@@ -8,6 +8,7 @@ from nadzsumek import Farm, NoFarm, NotAnswered
 from nadzsumek.results import plain, result_of
 from nadzsumek.verbs import Question
 
+from ..mistakes.verbs import Wrong, help_lines
 from .answers import Loading, meaning, refusal, shortfall, with_meaning
 from .connections import NO_FARM, REFUSED
 from .escapes import escaped
@@ -15,7 +16,6 @@ from .folder import Refused
 from .loads import Hindered, check_load
 from .orders import lines_of, split, table_of
 from .ports import joins_told, wiring_of
-from .verbs import Wrong, help_lines
 
 # What divides the lines of a text of several.
 LINES = "\n"

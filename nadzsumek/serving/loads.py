@@ -3,10 +3,10 @@ that are no events, so that nothing is recorded of it; only a node that computes
 import re
 from typing import NamedTuple
 
+from ..mistakes.verbs import Wrong, goes_on
 from .connections import opened
 from .folder import Refused
 from .ports import drivers_in
-from .verbs import Wrong, goes_on
 
 # How long each of its questions may take.
 SECONDS = 10

@@ -3,10 +3,10 @@ what to try, and `live` decides by itself."""
 import os
 import subprocess
 
+from ..mistakes.elsewhere import meant
+from ..mistakes.verbs import ALIASES, ALL, FILE, OPERATORS, SENTENCE, TEXT, USERS, Wrong, check, find, with_ports
 from .folder import EXAMPLES, OPERATOR, Refused, build, program
-from .hints import meant
 from .texts import in_quotes
-from .verbs import ALIASES, ALL, FILE, OPERATORS, SENTENCE, TEXT, USERS, Wrong, check, find, with_ports
 
 # How the name of a file ends that has a program in occam.
 OCCAM = ".occ"

@@ -3,9 +3,9 @@ import asyncio
 import re
 import socket
 
+from ..mistakes.verbs import goes_on
 from .lines import MOST_LINE, PIECE, Lines
 from .pace import Pace
-from .verbs import goes_on
 
 # So many lines of a speaker may be on their way at once. `live` keeps 1,024 lines for a domain, which has four users at
 # most, so no line of a client is refused as too many.

@@ -2,7 +2,7 @@
 that was typed is put in quotes, and a terminal says what is wrong with one before it sends it."""
 import re
 
-from .verbs import Wrong
+from ..mistakes.verbs import Wrong
 
 # What a letter behind a backslash means, and how that is written.
 ESCAPES = {"n": "\n", "r": "\r", "t": "\t", "0": "\0", "\\": "\\", '"': '"'}

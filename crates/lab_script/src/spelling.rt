@@ -3,11 +3,11 @@
 use crate::expanding::{Expansion, LoadedFile};
 use crate::form::{Shorthand, ShorthandLine};
 use crate::loading::loading_lines;
+use lab_words::ShownWord;
 use script_lines::{LineWords, parse_target};
 use script_text::TextWriter;
 use shorthand_lines::{ShorthandFault, ShorthandVerb, parse_shorthand};
 use std::alloc::{AllocError, Global};
-use word_mistakes::ShownWord;
 
 const NO_PORT: &str = " is no port number: decimal digits, 0 to 31";
 

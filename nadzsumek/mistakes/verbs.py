@@ -1,40 +1,47 @@
-"""The verbs that a person at a terminal has, and what stands behind each."""
-import difflib
-import re
-from typing import NamedTuple
+"""The verbs of a user and of the operator: the words after each, an example, and what it does. Terminals, scripts in Python and what
+is said of the lines of a script use this table."""
 
-from .hints import meant
+from __future__ import annotations
+
+import re
+from collections.abc import Mapping
+from typing import NamedTuple, Protocol
+
+from .elsewhere import meant
+from .nearness import nearest
 
 
 class Kind(NamedTuple):
-    """What a word behind a verb must be."""
+    """What a word after a verb must be, and what stands for it in the form of a line."""
 
     pattern: str
     most: int
     meaning: str
     example: str
+    letters: str = ""
 
 
-HEX = Kind(r"([0-9a-fA-F]{2})+", 0, "an even number of hexadecimal digits", "01000103")
-WORD = Kind(r"[0-9a-fA-F]{8}", 0, "eight hexadecimal digits", "80000100")
-HOST = Kind(r"\d+", 255, "the number of a host", "0")
-NODE = Kind(r"\d+", 255, "the number of a node", "0")
-PORT = Kind(r"\d+", 31, "the number of a port", "7")
-FILE = Kind(r".+", 0, "a file", "hello.s")
-TEXT = Kind(r".+", 0, "a text", '"hello\\n"')
+HEX = Kind(r"([0-9a-fA-F]{2})+", 0, "an even number of hexadecimal digits", "01000103", "HEX")
+ADDRESS = Kind(r"[0-9a-fA-F]{8}", 0, "eight hexadecimal digits", "80000100", "ADDR")
+WORD = ADDRESS._replace(letters="WORD")
+HOST = Kind(r"\d+", 255, "the number of a host", "0", "HOST")
+NODE = Kind(r"\d+", 255, "the number of a node", "0", "NODE")
+PORT = Kind(r"\d+", 31, "the number of a port", "7", "PORT")
+FILE = Kind(r".+", 0, "a file", "hello.s", "FILE")
+TEXT = Kind(r".+", 0, "a text", '"hello\\n"', '"TEXT"')
 SENTENCE = Kind(r".+", 0, "a sentence", "we end at five")
 USER = Kind(r"[a-z0-9-]{1,32}", 0, "a user's name", "ann")
 
 
 class Verb(NamedTuple):
-    """The words behind a verb, an example, what the verb does, how many of the words may be left out, and what else is
+    """The words after a verb, an example, what the verb does, how many of the words may be left out, and what else is
     to be known."""
 
-    kinds: tuple
+    kinds: tuple[Kind, ...]
     example: str
     meaning: str
     optional: int = 0
-    more: tuple = ()
+    more: tuple[str, ...] = ()
 
 
 LOADING = (
@@ -55,8 +62,10 @@ USERS = {
     "boot": Verb(
         (HOST, HEX), "boot 0 b424f224f2243081ff21f5", "boots the node that is joined with the host with this code"
     ),
-    "poke": Verb((HOST, WORD, WORD), "poke 0 80000100 12345678", "stores a word in a booting node, through the host"),
-    "peek": Verb((HOST, WORD), "peek 0 80000100", "reads a word of a booting node, through the host"),
+    "poke": Verb(
+        (HOST, ADDRESS, WORD), "poke 0 80000100 12345678", "stores a word in a booting node, through the host"
+    ),
+    "peek": Verb((HOST, ADDRESS), "peek 0 80000100", "reads a word of a booting node, through the host"),
     "collect": Verb((HOST,), "collect 0", "takes all bytes that came to the host"),
     "reset": Verb((NODE,), "reset 0", "resets a node; its memory stays"),
     "look": Verb((NODE,), "look 0", "tells a node's state, and how many bytes each link dropped"),
@@ -91,6 +100,9 @@ ALL = {
     "help": Verb((), "help load", "lists the verbs, or tells of one"),
     "quit": Verb((), "quit", "leaves the farm as it is and ends this terminal, as exit and Ctrl-D do"),
 }
+# The verbs of a script for `farm`, and those that the lab spells out.
+OF_SCRIPTS = ("config", "write", "boot", "poke", "peek", "collect", "reset", "look")
+SHORTHAND = ("load", "join", "send", "text")
 # Another word for a verb.
 ALIASES = {"exit": "quit"}
 # The verbs whose answers begin with a number of their lines.
@@ -101,14 +113,31 @@ class Wrong(Exception):
     """A line that isn't sent: which word is wrong, and what to try."""
 
 
-def is_of(kind, word):
+class Ports(Protocol):
+    """The ports of a user that examples name: one of a link, one of a host, and that host's number."""
+
+    @property
+    def link(self) -> int:
+        ...
+
+    @property
+    def port(self) -> int:
+        ...
+
+    @property
+    def host(self) -> int:
+        ...
+
+
+def is_of(kind: Kind, word: str) -> bool:
+    """Whether a word is of a kind."""
     if re.fullmatch(kind.pattern, word, re.ASCII) is None:
         return False
     digits = word.lstrip("0") or "0"
     return not kind.most or (len(digits) <= len(str(kind.most)) and int(digits) <= kind.most)
 
 
-def with_ports(ports):
+def with_ports(ports: Ports) -> dict[str, Verb]:
     """The verbs of a user, with examples for his own ports and his own host."""
     link, port = (PORT._replace(example=f"{it}") for it in (ports.link, ports.port))
     config, host = f"config 01{ports.link:02x}{ports.port:02x}03", HOST._replace(example=f"{ports.host}")
@@ -127,7 +156,7 @@ def with_ports(ports):
     return {**USERS, **own}
 
 
-def find(table, word):
+def find(table: Mapping[str, Verb], word: str) -> Verb:
     """The verb of this name."""
     if word in table:
         return table[word]
@@ -135,14 +164,12 @@ def find(table, word):
     if hint:
         raise Wrong(f"there is no verb {word!r}. {hint}")
     examples = {name: verb.example for name, verb in table.items()} | {it: it for it in ALIASES}
-    near = difflib.get_close_matches(word.lower(), examples, 1, 0.5)
-    raise Wrong(
-        f"there is no verb {word!r}. " + (f"Is it {near[0]}? Try: {examples[near[0]]}" if near else "Try: help")
-    )
+    near = nearest(word.lower(), examples, 0.5)
+    raise Wrong(f"there is no verb {word!r}. " + (f"Is it {near}? Try: {examples[near]}" if near else "Try: help"))
 
 
-def check(name, verb, words):
-    """Refuses the words behind a verb if their number is wrong, or one of them."""
+def check(name: str, verb: Verb, words: list[str]) -> None:
+    """Refuses the words after a verb if their number is wrong, or one of them."""
     for kind, word in zip(verb.kinds, words):
         if not is_of(kind, word):
             raise Wrong(
@@ -150,19 +177,19 @@ def check(name, verb, words):
             )
     if len(words) < len(verb.kinds) - verb.optional:
         kind = verb.kinds[len(words)]
-        raise Wrong(f"{name} wants {kind.meaning} behind it, such as {kind.example}. Try: {verb.example}")
+        raise Wrong(f"{name} wants {kind.meaning} after it, such as {kind.example}. Try: {verb.example}")
     if len(words) > len(verb.kinds):
         raise Wrong(
-            f"{words[len(verb.kinds)]!r} is too much behind {verb.example.partition(' ')[0]}. Try: {verb.example}"
+            f"{words[len(verb.kinds)]!r} is too much after {verb.example.partition(' ')[0]}. Try: {verb.example}"
         )
 
 
-def goes_on(answer):
+def goes_on(answer: str) -> bool:
     """Whether this isn't the last line of an answer: only `why` has several, and its last is `why end`."""
     return answer.startswith("why ") and not re.fullmatch(r"why (end|\d+ nosuch)", answer)
 
 
-def help_lines(table, word=None):
+def help_lines(table: Mapping[str, Verb], word: str | None = None) -> list[str]:
     """An example of each verb with what it does, or of one."""
     chosen = {word: find(table, word)} if word else table
     return [
