@@ -12,7 +12,6 @@ from .words import BLANK, CAPITALS, REMARK, help_of_characters, help_of_digits, 
 
 # How many users are named at most, and how many wrong lines have a sentence of their own.
 MOST_NAMES, MOST_TOLD = 8, 100
-PLAN_END = b"---"
 VERBS = f"{', '.join(OF_SCRIPTS[:-1])} or {OF_SCRIPTS[-1]}"
 IN_LAB = "in `lab run`; `lab expand` spells its line out"
 REFUSALS = {
@@ -88,8 +87,7 @@ def help_of_user(user: bytes, names: list[str]) -> str:
         return in_brackets(CAPITALS + same)
     if word in OF_SCRIPTS or word.lower() in SHORTHAND:
         return in_brackets("a line begins with the name of its user, and then comes the verb")
-    near = nearest(word, names)
-    return in_brackets(help_of_characters(word) or (f"is it {near}?" if near else None))
+    return in_brackets(help_of_characters(word))
 
 
 def told_of_verb(words: list[bytes]) -> str:

@@ -29,7 +29,7 @@ WORD = re.compile(
     r'(.*column \d+: (?:"(?P<word>.*)"|(?P<blank>a blank)|the end of the line|the byte ..)'
     r" where (?P<wanted>.*?))(?P<tail>; a record has lines as .*)?"
 )
-ASSEMBLY = re.compile(r'(?P<all>.*fault (?P<fault>\d+): expected .*?, not "(?P<word>(?:[^"\\]|\\.)*)")(?P<told>\. .*)?')
+ASSEMBLY = re.compile(r'.*fault (?P<fault>\d+): expected .*?, not "(?P<word>(?:[^"\\]|\\.)*)"(?P<told>\. .*)?')
 
 
 def with_help(refusal: bytes, source: bytes) -> bytes:
@@ -143,9 +143,9 @@ def help_of_instruction(word: str) -> str | None:
 
 
 def of_assembly(found: re.Match[str], _source: bytes) -> str | None:
-    """A line of the assembler, with what helps for its word if nothing else is said of it."""
+    """A line of the assembler, with what helps for its word."""
     told = help_of_fault(int(found["fault"]), meant(found["word"]), bool(found["told"]))
-    return f"{found['all']}. {told}" if told else None
+    return f"{found[0]}. {told}" if told else None
 
 
 def help_of_fault(fault: int, word: str, is_told: bool) -> str | None:

@@ -11,7 +11,7 @@ use std::fs::{self, Files};
 // The variable with the folder of the two pipes by which the front end is asked and answers. The command `lab` sets it.
 const FRONT_END: &str = "NADZSUMEK_OCCAM";
 
-// How many bytes a text has at most of which the front end is asked why it is refused.
+// The front end isn't asked about a longer text, in bytes.
 const MOST_EXPLAINED: usize = 0x100_0000;
 
 /// What is asked of the front end about a text.

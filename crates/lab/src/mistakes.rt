@@ -1,9 +1,7 @@
 //! Lines that are read and not done, each with the mistake that is found in it.
 
 use event_text::read_request;
-use lab_words::{
-    NumberedLineFault, Question, Wanted, WordFault, WordForm, WordMistake, WrongLine,
-};
+use lab_words::{NumberedLineFault, Question, Wanted, WordFault, WordForm, WordMistake, WrongLine};
 use node_trace::read_trace_line;
 use std::alloc::Global;
 

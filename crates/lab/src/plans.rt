@@ -1,9 +1,7 @@
 //! Plans in files, each with what the checker is to answer.
 
 use crate::blocks::{HEADING, line_number_at, lines_as_text, lines_below, read_lines};
-use lab_words::{
-    Answered, NumberedLineFault, Question, Wanted, WordForm, WordMistake, WrongLine,
-};
+use lab_words::{Answered, NumberedLineFault, Question, Wanted, WordForm, WordMistake, WrongLine};
 use plan_checker::{PlanFault, accept_plan};
 use script_text::TextWriter;
 use std::alloc::{AllocError, Global};

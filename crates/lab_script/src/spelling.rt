@@ -94,7 +94,7 @@ fn refuse_words(text: &mut TextWriter, line: ShorthandLine<'_>, verb: ShorthandV
     text.push("too many words: ");
     line.write_form(text);
     if line.rest.ends_with(" ") {
-        text.push(" (a blank stands at the end of the line)");
+        text.push(" (there is a space at the end of the line)");
     }
     text.push("\n");
 }
@@ -125,7 +125,7 @@ fn refuse(text: &mut TextWriter, line: ShorthandLine<'_>, word: &str, wrong: &st
         text.keep_failure(written);
         text.push(wrong);
         if word.ends_with(" ") {
-            text.push(" (a blank stands at the end of the line)");
+            text.push(" (there is a space at the end of the line)");
         }
     }
     text.push("\n");
