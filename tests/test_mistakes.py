@@ -219,6 +219,10 @@ def test_many_wrong_lines(count: int, rest: str) -> None:
         (["run"], PLAN.replace(b"limit", b"limt", 1), 3, [
             f"plan: 2: domain 0: there is no field `limt`. Is it `limit`?{MARKLESS}"
         ]),
+        (["replay"], b"version = 4\n---\n", 3, [
+            "plan: 2: a field is missing, unknown or of a wrong kind, in the plan that begins at line 1 (`lab plan` says where)"
+        ]),
+        (["plan"], b"", 3, ["plan: 2: the plan: the field `version` is missing, an integer"]),
         (["assemble"], b"rev\nmov 5\n", 4, [
             f"line 2{rows_of('programs.assembly')['mov 5'].removeprefix('line 1')}. "
             "ldc, ldl and ldnl load a word into A, and stl and stnl store it"

@@ -180,7 +180,7 @@ def installations_stay(_, __):
             run(f"{prefix}/bin/farm", script, env={"PATH": "/usr/bin:/bin"}),
             (0, contents(f"{EXAMPLES}/two-users.out").decode(), ""),
         )
-        status, _, said = run(f"{TOP}/tools/install", "--draft", prefix, env={**env, "FARM_EXPLAIN": "/nonexistent"})
+        status, _, said = run(f"{TOP}/tools/install", "--draft", prefix, env={**env, "LIVE": "/nonexistent"})
         wanted((status, said), (1, "install: there is no program /nonexistent, so nothing is installed\n"))
         works()
         for sent, seconds in BROKEN_OFF:

@@ -23,7 +23,10 @@ SMALL_LETTERS = "names of instructions are in small letters"
 COMMENT = "A comment begins with --"
 SUMS = "Operands have + and - alone, and no parentheses"
 INSTRUCTION = "an operation as add, a function and its operand as ldc 5, or hex and bytes"
-PLAN = re.compile(r"plan: (\d+): .*?( \(no line after it is just ---.*\))?")
+# A plan that is the text, or before its script. Of a plan elsewhere the program says where it begins, or what finds its fault.
+PLAN = re.compile(
+    r"plan: (\d+): (?!.*(?:in the plan that begins|`lab plan` says)).*?( \(no line after it is just ---.*\))?"
+)
 SCRIPT = re.compile(r"line (\d+): (user|verb|args|hex)")
 WORD = re.compile(
     r'(.*column \d+: (?:"(?P<word>.*)"|(?P<blank>a blank)|the end of the line|the byte ..)'
