@@ -9,7 +9,7 @@ mod wanted;
 mod words;
 
 pub use fault::{NumberedLineFault, WordFault};
-pub use mistake::{MetText, ShownWord, WordMistake, WrongLine, column_at};
+pub use mistake::{MetText, ShownWord, WordMistake, WrongLine};
 pub use questions::{Answered, Question, read_questions};
 pub use utf8::line_as_str;
 pub use wanted::{Wanted, WordForm};
