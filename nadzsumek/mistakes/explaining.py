@@ -8,9 +8,11 @@ from __future__ import annotations
 
 import os
 import re
+import signal
 import subprocess
 import sys
 import threading
+from typing import NoReturn
 
 REFUSED_PLAN, REFUSED_LINE, NOT_STARTED = 3, 4, 6
 PIECE = 1 << 16
@@ -36,7 +38,7 @@ class Input:
 
 
 def explanation(told: bytes, text: bytes) -> list[str]:
-    """What is said of a text, where the program said this."""
+    """What is said of a text, where the program said this; nothing of a plan that Python reads otherwise."""
     # what explains is there only once something is refused
     from nadzsumek.mistakes.lines import divided, told_lines
     from nadzsumek.mistakes.plans import told_plan, users_of
@@ -45,7 +47,10 @@ def explanation(told: bytes, text: bytes) -> list[str]:
     if plan:
         line = told_plan(int(plan[1]), text)
         return [line] if line else []
-    return told_lines(users_of(text), divided(text)[1] or b"")
+    try:
+        return told_lines(users_of(text), divided(text)[1] or b"")
+    except ValueError:
+        return []
 
 
 def run(call: list[str]) -> int:
@@ -61,19 +66,25 @@ def run(call: list[str]) -> int:
             told += piece
             os.write(2, piece)
     if program.returncode in (REFUSED_PLAN, REFUSED_LINE):
-        for line in explanation(bytes(told), bytes(given.kept)):
-            os.write(2, f"{line}\n".encode())
+        os.write(2, "".join(f"{line}\n" for line in explanation(bytes(told), bytes(given.kept))).encode())
     return program.returncode
+
+
+def end(status: int) -> NoReturn:
+    """Ends with a status, or by the signal that ended the program."""
+    if status < 0:
+        signal.signal(-status, signal.SIG_DFL)
+        os.kill(os.getpid(), -status)
+    # the thread that hands on may still wait for its next byte
+    os._exit(status)
 
 
 if __name__ == "__main__":
     sys.path.insert(0, os.path.dirname(os.path.dirname(os.path.dirname(os.path.abspath(__file__)))))
     try:
-        status = run(sys.argv[1:])
+        end(run(sys.argv[1:]))
     except KeyboardInterrupt:
-        status = 130
+        end(-signal.SIGINT)
     except OSError as error:
         print(f"farm: {sys.argv[1]} can't be started: {error.strerror}", file=sys.stderr)
-        status = NOT_STARTED
-    # the thread that hands on may still wait for its next byte
-    os._exit(status if status >= 0 else 128 - status)
+        end(NOT_STARTED)

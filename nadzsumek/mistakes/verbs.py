@@ -177,10 +177,10 @@ def check(name: str, verb: Verb, words: list[str]) -> None:
             )
     if len(words) < len(verb.kinds) - verb.optional:
         kind = verb.kinds[len(words)]
-        raise Wrong(f"{name} wants {kind.meaning} after it, such as {kind.example}. Try: {verb.example}")
+        raise Wrong(f"{name} wants {kind.meaning} behind it, such as {kind.example}. Try: {verb.example}")
     if len(words) > len(verb.kinds):
         raise Wrong(
-            f"{words[len(verb.kinds)]!r} is too much after {verb.example.partition(' ')[0]}. Try: {verb.example}"
+            f"{words[len(verb.kinds)]!r} is too much behind {verb.example.partition(' ')[0]}. Try: {verb.example}"
         )
 
 
