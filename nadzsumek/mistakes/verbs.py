@@ -160,7 +160,7 @@ def find(table: Mapping[str, Verb], word: str) -> Verb:
     """The verb of this name."""
     if word in table:
         return table[word]
-    hint = meant(word, table) if word.lower() not in table else None
+    hint = meant(word, table) if word.lower() not in (*table, *ALIASES) else None
     if hint:
         raise Wrong(f"there is no verb {word!r}. {hint}")
     examples = {name: verb.example for name, verb in table.items()} | {it: it for it in ALIASES}

@@ -3,6 +3,7 @@ import os
 import re
 from typing import NamedTuple
 
+from ..mistakes.nearness import nearest
 from ..mistakes.verbs import Wrong
 from .folder import Refused
 from .plans import LIMIT, Machine
@@ -146,8 +147,7 @@ class Reader:
         if first not in WORDS:
             near = nearest(first.lower(), WORDS)
             raise Unfit(
-                f"no line begins with {first!r}"
-                + (f": is it {near}?" if near else f": there are {', '.join(WORDS)}")
+                f"no line begins with {first!r}" + (f": is it {near}?" if near else f": there are {', '.join(WORDS)}")
             )
         if first == "before":
             if self.tests or rest:
