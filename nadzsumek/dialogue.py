@@ -6,7 +6,7 @@ from __future__ import annotations
 import collections
 from collections.abc import Callable
 
-from nadzsumek.serving.verbs import goes_on
+from nadzsumek.mistakes.verbs import goes_on
 
 from .failures import NoFarm
 from .results import Note, note_of

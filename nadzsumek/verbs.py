@@ -8,9 +8,9 @@ import time
 from collections.abc import Callable, Iterable
 from typing import Any, TypeAlias
 
+from nadzsumek.mistakes.verbs import Wrong
 from nadzsumek.serving.orders import lines_of, loading
 from nadzsumek.serving.texts import quoted
-from nadzsumek.serving.verbs import Wrong
 
 from .failures import FarmError
 from .results import Loaded, result_of

@@ -16,7 +16,7 @@ from live_lines import PLAN
 from serving_trials import SECONDS, Served, hears_ctrl_c, wanted
 from trials import EXAMPLES, TOP, built, built_program, contents
 
-PROGRAMS = ("farm", "farm_explain", "live", "lab")
+PROGRAMS = ("farm", "live", "lab")
 # A plan whose node has the port of the host, and what `lab plan` says of it (docs/guides/OPERATOR.md).
 CLASHING = 'version = 1\ndomain = [{name="ann", first=0, last=7, limit=1000, host=[7], node=[{memory=4096, links=[0,7,-1,-1]}]}]\n'
 CLASH = (
@@ -36,7 +36,7 @@ def run(*call, text="", **more):
 
 def scripts_are_in_files(_, __):
     """`./farm FILE` is as the same text on standard input, with words before it and behind it."""
-    built("farm"), built("farm_explain")
+    built("farm")
     farm, path = f"{TOP}/farm", f"{EXAMPLES}/two-users.farm"
     printed = contents(f"{EXAMPLES}/two-users.out").decode()
     for words in (
@@ -180,7 +180,7 @@ def installations_stay(_, __):
             run(f"{prefix}/bin/farm", script, env={"PATH": "/usr/bin:/bin"}),
             (0, contents(f"{EXAMPLES}/two-users.out").decode(), ""),
         )
-        status, _, said = run(f"{TOP}/tools/install", "--draft", prefix, env={**env, "FARM_EXPLAIN": "/nonexistent"})
+        status, _, said = run(f"{TOP}/tools/install", "--draft", prefix, env={**env, "LIVE": "/nonexistent"})
         wanted((status, said), (1, "install: there is no program /nonexistent, so nothing is installed\n"))
         works()
         for sent, seconds in BROKEN_OFF:

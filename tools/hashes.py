@@ -6,7 +6,7 @@ from stamps import Stamp, digest_of, digest_of_file, is_proved, is_this_toolchai
 from tree import TOP
 
 TEXT = f"{TOP}/docs/HASHES.txt"
-PROGRAMS = ("farm", "farm_explain", "live", "lab")
+PROGRAMS = ("farm", "live", "lab")
 HEAD = """# The SHA-256 of each proved program, as the toolchain named below makes it from the sources whose digest is beside it: code,
 # definitions and proofs. tools/hashes writes this text when a release is made, and the gate compares it with the programs that it has
 # proved and built, if it is of their sources. docs/RELEASES.md says how to check a program by it.

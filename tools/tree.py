@@ -36,7 +36,7 @@ def is_program(name: str) -> bool:
 
 def built(name: str) -> str:
     """The path of a program, which is proved and built first if it isn't known to be proved of these sources. If a variable
-    of its name in capitals is set (FARM, FARM_EXPLAIN, LAB, LIVE), the program is the one at that path, and nothing
+    of its name in capitals is set (FARM, LAB, LIVE), the program is the one at that path, and nothing
     is built. The script ends if it can't be built."""
     import subprocess  # pylint: disable=import-outside-toplevel
 

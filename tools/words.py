@@ -16,8 +16,6 @@ from tree import TOP
 
 PAGE = f"{TOP}/docs/COMMANDS.md"
 SHOWN, REFUSED, UNKNOWN = 0, 2, 100
-# The program that is said to be another one: `farm_explain` is run by `farm`.
-CALLED = {"farm_explain": "farm"}
 
 
 class Done(Exception):
@@ -91,10 +89,10 @@ def show_help_of(call: str, words: list[str], kept: dict[str, str]) -> NoReturn:
 
 def answer(name: str, words: list[str]) -> int:
     """Answers the words of a program, and gives the status."""
-    kept, call = texts(), CALLED.get(name, name)
+    kept = texts()
     try:
-        if call in kept:
-            look_at(call, words, kept)
+        if name in kept:
+            look_at(name, words, kept)
     except Done as done:
         return int(done.args[0])
     return UNKNOWN

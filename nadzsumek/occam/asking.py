@@ -1,6 +1,8 @@
 """Runs the lab with this front end beside it, and makes the page of a film (`nadzsumek/film`). The program asks for the unit of a
 text by two named pipes, in the folder that the variable NADZSUMEK_OCCAM names: it writes a line, `unit` or `core`, and the text to
-`asked`, and reads the answer from `answered`.
+`asked`, and reads the answer from `answered`. Before it ends because a text is refused, it asks in the same way for what helps: the
+line is `help` and a number of bytes, which are those of its refusal, and then comes the text. The answer is the refusal with what
+helps (`nadzsumek/mistakes/refusals.py`).
 
 usage: asking.py PROGRAM WORD..
 
@@ -27,6 +29,8 @@ ASKED, ANSWERED = "asked", "answered"
 STACK = 64 << 20
 # The first line of a question that wants the core as a text too.
 WITH_CORE = b"core"
+# How the first line of a question begins that wants help for a refusal.
+HELP = b"help "
 NOT_STARTED = 6
 
 
@@ -35,12 +39,23 @@ def answer_all(folder: str) -> None:
     while True:
         with open(os.path.join(folder, ASKED), "rb") as asked:
             question, _, text = asked.read().partition(b"\n")
-        answer = unit_in_json(text, question == WITH_CORE)
+        answer = help_of(question, text) if question.startswith(HELP) else unit_in_json(text, question == WITH_CORE)
         try:
             with open(os.path.join(folder, ANSWERED), "wb") as answered:
                 answered.write(answer)
         except BrokenPipeError:
             pass  # the program ended before it had read all
+
+
+def help_of(question: bytes, text: bytes) -> bytes:
+    """A refusal with what helps; nothing if that isn't known, so that the program says its refusal."""
+    try:
+        from nadzsumek.mistakes.refusals import with_help
+
+        count = int(question.removeprefix(HELP))
+        return with_help(text[:count], text[count:])
+    except Exception:  # pylint: disable=broad-exception-caught
+        return b""
 
 
 def unit_in_json(text: bytes, with_core: bool) -> bytes:

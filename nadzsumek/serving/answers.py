@@ -1,8 +1,8 @@
 """The answers at a terminal: to which line each belongs, what it means, and the text of what was collected."""
 import re
 
+from ..mistakes.verbs import NUMBERED
 from .texts import bytes_meant
-from .verbs import NUMBERED
 
 LOST = "error: not answered, send it again if you want it: "
 # So ends what is told of a line that is too long to be told.

@@ -13,6 +13,7 @@ from nadzsumek import Farm, NoFarm, NotAnswered
 from nadzsumek.results import plain, result_of
 from nadzsumek.verbs import Question
 
+from ..mistakes.verbs import Wrong, help_lines
 from .answers import Loading, meaning, refusal, shortfall, with_meaning
 from .connections import NO_FARM, REFUSED
 from .escapes import escaped
@@ -20,7 +21,6 @@ from .folder import Refused
 from .loads import Hindered, check_load
 from .orders import lines_of, split, table_of
 from .ports import joins_told, wiring_of
-from .verbs import Wrong, help_lines
 
 if TYPE_CHECKING:
     from nadzsumek.farm import User

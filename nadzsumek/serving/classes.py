@@ -3,7 +3,6 @@
 from __future__ import annotations
 
 import argparse
-import difflib
 import fcntl
 import os
 import shlex
@@ -11,6 +10,7 @@ import sys
 from collections.abc import Callable
 from concurrent.futures import ThreadPoolExecutor
 
+from ..mistakes.nearness import nearest
 from .changing import hold, starting
 from .checking import check
 from .coming import add, change_one, remove, rename
@@ -256,10 +256,10 @@ def order(given: list[str]) -> int:
     if first in MORE_ORDERS:
         return MORE_ORDERS[first](words)
     if first not in ORDERS:
-        near = difflib.get_close_matches(first.lower(), [*ORDERS, *MORE_ORDERS], 1, 0.6)
+        near = nearest(first.lower(), [*ORDERS, *MORE_ORDERS])
         there = shlex.quote(words[0]) if len(words) == 1 else "course"
-        how = example_of(near[0], there) if near and near[0] in ORDERS else f"class {near[0]} --help" if near else None
-        more = f"Is it {near[0]}? Try: {how}" if near else "A new class wants --students, see class --help"
+        how = example_of(near, there) if near and near in ORDERS else f"class {near} --help" if near else None
+        more = f"Is it {near}? Try: {how}" if near else "A new class wants --students, see class --help"
         *names, last = sorted([*ORDERS, *MORE_ORDERS])
         raise Refused(f"there is no subcommand {first}: there are {', '.join(names)} and {last}. {more}")
     if first == "start" and any(it.startswith(("--room", "--record-room")) for it in words):

@@ -2,15 +2,15 @@
 
 from __future__ import annotations
 
-import difflib
 import os
 import re
 from typing import Any, NamedTuple
 
+from ..mistakes.nearness import nearest
+from ..mistakes.verbs import Wrong
 from .folder import Refused
 from .plans import LIMIT, Machine
 from .texts import bytes_meant
-from .verbs import Wrong
 
 # The file of an exercise that is a folder, and how many bytes it may have.
 FILE, MOST_BYTES = "exercise.txt", 1 << 20
@@ -152,10 +152,9 @@ class Reader:
 
     def read(self, first: str, rest: str = "") -> None:
         if first not in WORDS:
-            near = difflib.get_close_matches(first.lower(), WORDS, 1, 0.6)
+            near = nearest(first.lower(), WORDS)
             raise Unfit(
-                f"no line begins with {first!r}"
-                + (f": is it {near[0]}?" if near else f": there are {', '.join(WORDS)}")
+                f"no line begins with {first!r}" + (f": is it {near}?" if near else f": there are {', '.join(WORDS)}")
             )
         if first == "before":
             if self.tests or rest:

@@ -7,10 +7,10 @@ import re
 from collections.abc import Callable
 from typing import TYPE_CHECKING, NamedTuple
 
+from ..mistakes.verbs import Wrong, goes_on
 from .connections import opened
 from .folder import Refused
 from .ports import drivers_in
-from .verbs import Wrong, goes_on
 
 if TYPE_CHECKING:
     from .ports import Wiring

@@ -7,14 +7,14 @@ import os
 import subprocess
 from typing import TYPE_CHECKING
 
+from ..mistakes.elsewhere import meant
+from ..mistakes.verbs import ALIASES, ALL, FILE, OPERATORS, SENTENCE, TEXT, USERS, Wrong, check, find, with_ports
 from .folder import EXAMPLES, OPERATOR, Refused, build, program
-from .hints import meant
 from .texts import in_quotes
-from .verbs import ALIASES, ALL, FILE, OPERATORS, SENTENCE, TEXT, USERS, Wrong, check, find, with_ports
 
 if TYPE_CHECKING:
     from .ports import Ports
-    from .verbs import Verb
+    from ..mistakes.verbs import Verb
 
 # How the name of a file ends that has a program in occam.
 OCCAM = ".occ"

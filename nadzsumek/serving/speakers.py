@@ -8,9 +8,9 @@ import socket
 from collections.abc import Awaitable, Callable
 from typing import TYPE_CHECKING
 
+from ..mistakes.verbs import goes_on
 from .lines import MOST_LINE, PIECE, Lines
 from .pace import Pace
-from .verbs import goes_on
 
 if TYPE_CHECKING:
     from .running import Live

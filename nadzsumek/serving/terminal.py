@@ -14,6 +14,7 @@ import sys
 import threading
 import time
 
+from ..mistakes.verbs import Wrong, goes_on, help_lines
 from .answers import Due, Loading, refusal, with_meaning
 from .completion import complete_with
 from .connections import NO_FARM, REFUSED, opened
@@ -23,7 +24,6 @@ from .kept import place_of
 from .loads import Hindered, check_load
 from .orders import lines_of, split, table_of
 from .ports import joins_told, ports_of, wiring_of
-from .verbs import Wrong, goes_on, help_lines
 from .versions import add_version
 
 HISTORY = os.path.expanduser("~/.nadzsumek_history")

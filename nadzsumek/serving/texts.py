@@ -5,7 +5,7 @@ from __future__ import annotations
 
 import re
 
-from .verbs import Wrong
+from ..mistakes.verbs import Wrong
 
 # What a letter behind a backslash means, and how that is written.
 ESCAPES = {"n": "\n", "r": "\r", "t": "\t", "0": "\0", "\\": "\\", '"': '"'}

@@ -2,10 +2,9 @@
 
 use crate::request::{DomainRequest, RepeatedRequest, Request};
 use domain_core::{By, Event, TICKET_STEPS};
-use lab_words::{WordFault, Words};
+use lab_words::{Wanted, WordFault, WordForm, Words};
 use script_text::decimal_number;
 use std::alloc::{AllocError, Global};
-use word_mistakes::{Wanted, WordForm, WordHint, WordRole};
 
 /// The most times that one line is asked, unless it asks the farm for Steps.
 const MOST_TIMES: u64 = 1_000_000;
@@ -92,8 +91,8 @@ pub fn read_request(alloc: Global, line: &str) -> Result<RepeatedRequest, WordFa
     let times = read_times(&mut words);
     let request = read_once(alloc, &mut words)?;
     if times > most_times(&request) {
-        let wanted = Wanted::decimal(WordRole::Times, 0, MOST_TIMES);
-        words.reject_with(begin, wanted, Some(WordHint::FewerTimes));
+        let wanted = Wanted::decimal("a number of times", 0, MOST_TIMES);
+        words.reject(begin, wanted);
     }
     words.finish(RepeatedRequest { times, request })
 }
@@ -105,7 +104,7 @@ fn read_times(words: &mut Words) -> u64 {
     if ahead.peek() != "times" {
         return 1;
     }
-    let times = words.decimal(WordRole::Times, TICKET_STEPS);
+    let times = words.decimal("a number of times", TICKET_STEPS);
     let _ = words.take_if("times");
     times
 }
@@ -125,20 +124,20 @@ fn read_once(alloc: Global, words: &mut Words) -> Result<Request, AllocError> {
     if words.take_if("reopen") {
         return Ok(Request::Reopen);
     }
-    let domain = words.small_decimal(WordRole::Domain);
-    let wanted = Wanted::Word(WordRole::DomainVerb, WordForm::OneOf(&VERB_NAMES));
+    let domain = words.small_decimal("a domain's number");
+    let wanted = Wanted::Word("a verb of a domain", WordForm::OneOf(&VERB_NAMES));
     Ok(match words.value_in(&VERBS, RequestVerb::Quiet, wanted) {
         RequestVerb::Quiet => Request::Domain(domain, DomainRequest::Quiet),
         RequestVerb::Word => Request::Domain(
             domain,
-            DomainRequest::Word(words.small_decimal(WordRole::Output)),
+            DomainRequest::Word(words.small_decimal("an output's number")),
         ),
         RequestVerb::Recorded => Request::Domain(domain, DomainRequest::Recorded),
         RequestVerb::Restart => Request::Domain(domain, DomainRequest::Restart),
         RequestVerb::Journal => Request::Domain(domain, DomainRequest::Journal),
         RequestVerb::Checkout => Request::Domain(
             domain,
-            DomainRequest::Checkout(words.small_decimal(WordRole::Node)),
+            DomainRequest::Checkout(words.small_decimal("a node's number")),
         ),
         RequestVerb::Burst => Request::Domain(domain, read_burst(words)),
         RequestVerb::Commit => Request::Domain(domain, DomainRequest::Commit(read_ticket(words))),
@@ -151,16 +150,19 @@ fn read_once(alloc: Global, words: &mut Words) -> Result<Request, AllocError> {
 }
 
 fn read_burst(words: &mut Words) -> DomainRequest {
-    DomainRequest::Burst(read_ticket(words), words.decimal(WordRole::Steps, u64::MAX))
+    DomainRequest::Burst(
+        read_ticket(words),
+        words.decimal("a number of Steps", u64::MAX),
+    )
 }
 
 fn read_ticket(words: &mut Words) -> usize {
-    words.decimal(WordRole::Ticket, u64::MAX) as usize
+    words.decimal("a ticket's number", u64::MAX) as usize
 }
 
 fn read_settle(words: &mut Words) -> DomainRequest {
-    let quantum = words.decimal_from(WordRole::Quantum, 1, MOST_QUANTUM);
-    DomainRequest::Settle(quantum, words.decimal(WordRole::Rounds, u64::MAX))
+    let quantum = words.decimal_from("a quantum of Steps", 1, MOST_QUANTUM);
+    DomainRequest::Settle(quantum, words.decimal("a number of rounds", u64::MAX))
 }
 
 // Who asks if the line doesn't say it: the farm steps and moves, and user 0 asks for the rest.
@@ -176,7 +178,7 @@ fn read_asker(usual: By, words: &mut Words) -> By {
     let place = words.place();
     match words.peek().strip_prefix("@") {
         Some(name) => {
-            let wanted = Wanted::Word(WordRole::User, WordForm::Asker);
+            let wanted = Wanted::Word("the user who asks", WordForm::Asker);
             let _ = words.take(wanted);
             words.or_reject(place, asker_named(name), usual, wanted)
         }
@@ -213,7 +215,7 @@ fn read_moves(alloc: Global, words: &mut Words) -> Result<Vec<Event>, AllocError
         if words.peek().starts_with("@") {
             break;
         }
-        events.push(Event::Move(words.small_decimal(WordRole::Port)))?;
+        events.push(Event::Move(words.small_decimal("a port's number")))?;
     }
     Ok(events)
 }
@@ -228,7 +230,7 @@ fn read_configs(alloc: Global, words: &mut Words) -> Result<Vec<Event>, AllocErr
 }
 
 fn read_writes(alloc: Global, words: &mut Words) -> Result<Vec<Event>, AllocError> {
-    let host = words.small_decimal(WordRole::Host);
+    let host = words.small_decimal("a host's number");
     let bytes = words.bytes(alloc)?;
     let mut events = Vec::new(alloc);
     for byte in &bytes {
@@ -239,15 +241,15 @@ fn read_writes(alloc: Global, words: &mut Words) -> Result<Vec<Event>, AllocErro
 
 fn read_event(kind: EventKind, words: &mut Words) -> Event {
     match kind {
-        EventKind::Step => Event::Step(words.small_decimal(WordRole::Node)),
-        EventKind::Move => Event::Move(words.small_decimal(WordRole::Port)),
+        EventKind::Step => Event::Step(words.small_decimal("a node's number")),
+        EventKind::Move => Event::Move(words.small_decimal("a port's number")),
         EventKind::Config => Event::Config(words.byte(WordForm::TwoDigits)),
         EventKind::Write => Event::Write(
-            words.small_decimal(WordRole::Host),
+            words.small_decimal("a host's number"),
             words.byte(WordForm::TwoDigits),
         ),
-        EventKind::Read => Event::Read(words.small_decimal(WordRole::Host)),
-        EventKind::Reset => Event::Reset(words.small_decimal(WordRole::Node)),
-        EventKind::Look => Event::Look(words.small_decimal(WordRole::Node)),
+        EventKind::Read => Event::Read(words.small_decimal("a host's number")),
+        EventKind::Reset => Event::Reset(words.small_decimal("a node's number")),
+        EventKind::Look => Event::Look(words.small_decimal("a node's number")),
     }
 }

@@ -1,7 +1,7 @@
 //! A record is looked through by commands.
 
 use crate::failure::wrong_debugging;
-use crate::front_end::readable_program;
+use crate::front_end::{lines_with_help, readable_program};
 use crate::programs::{WrongProgram, program_of_text};
 use lab_command::{ArgumentFault, Debugging, LabFailure, TerminalMeter, read_file};
 use lab_debug::{DebugFault, Debugger, FoundProgram, ProgramFiles, ProgramOf, debug};
@@ -20,7 +20,9 @@ impl ProgramFiles for Files<'_> {
         };
         match program_of_text(self.0.alloc(), file, text) {
             Ok(program) => Ok(FoundProgram::Program(program)),
-            Err(WrongProgram::Shown(mistakes)) => Ok(FoundProgram::Wrong(mistakes)),
+            Err(WrongProgram::Shown(mistakes)) => {
+                Ok(FoundProgram::Wrong(lines_with_help(self.0, mistakes, &[])?))
+            }
             Err(WrongProgram::Memory) => Err(AllocError),
         }
     }

@@ -2,24 +2,22 @@
 
 use lab_command::{LabFailure, NO_MEMORY, REFUSED_PLAN, WRONG_TEXT};
 use lab_debug::DebugFault;
-use plan_mistakes::PlanRefusal;
+use plan_checker::PlanFault;
 use record_following::{RecordStop, WhyFault};
 use script_replay::{ReplayFault, RunFault};
 use std::alloc::Global;
 
-/// A plan is refused, with the place and the reason.
-pub fn refused_plan(alloc: Global, refusal: &PlanRefusal) -> LabFailure {
-    match refusal {
-        PlanRefusal::NoMemory => LabFailure::Memory,
-        refusal => LabFailure::of_line(alloc, refusal, REFUSED_PLAN),
-    }
+/// A plan is refused.
+pub fn refused_plan(alloc: Global, fault: PlanFault) -> LabFailure {
+    wrong_run(alloc, RunFault::of_plan(fault, true))
 }
 
 /// A text isn't replayed.
 pub fn wrong_replay(alloc: Global, fault: ReplayFault) -> LabFailure {
     match fault {
-        ReplayFault::OfUser(text) => LabFailure::Shown {
-            text,
+        ReplayFault::OfUser { told, line } => LabFailure::Refused {
+            text: told,
+            source: line,
             status: WRONG_TEXT,
         },
         ReplayFault::Line(wrong) => LabFailure::of_line(alloc, &wrong, WRONG_TEXT),

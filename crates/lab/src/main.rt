@@ -20,6 +20,7 @@ mod why;
 
 use crate::debugging::print_debugging;
 use crate::film::print_film;
+use crate::front_end::with_help;
 use crate::occam_texts::report_occam;
 use crate::replays::print_replayed;
 use crate::rows::report_rows;
@@ -33,7 +34,13 @@ use lab_command::{
 use std::process::ExitCode;
 
 fn main(rt: HostRuntime) -> ExitCode {
-    end_with(&rt, report(&rt))
+    end_with(
+        &rt,
+        match report(&rt) {
+            Ok(report) => Ok(report),
+            Err(failure) => Err(with_help(&rt, failure)),
+        },
+    )
 }
 
 fn report(rt: &HostRuntime) -> Result<Report, LabFailure> {

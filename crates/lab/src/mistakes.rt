@@ -1,10 +1,9 @@
 //! Lines that are read and not done, each with the mistake that is found in it.
 
 use event_text::read_request;
-use lab_words::{NumberedLineFault, Question, WordFault};
+use lab_words::{NumberedLineFault, Question, Wanted, WordFault, WordForm, WordMistake, WrongLine};
 use node_trace::read_trace_line;
 use std::alloc::Global;
-use word_mistakes::{Wanted, WordForm, WordMistake, WordRole, WrongLine};
 
 /// The answer to a row, which is `replay` or `trace`, a blank, and a line as that subcommand reads it. The answer is the
 /// mistake of that line, in the words that follow the line's number in a message, or `right`.
@@ -35,7 +34,7 @@ fn tell_read(alloc: Global, read: Result<(), WordFault>) -> Result<String, Numbe
 
 // A row begins with no subcommand.
 fn no_row(row: &Question) -> WrongLine {
-    let wanted = Wanted::Word(WordRole::Subcommand, WordForm::OneOf(&["replay", "trace"]));
+    let wanted = Wanted::Word("a subcommand", WordForm::OneOf(&["replay", "trace"]));
     let (begin, _) = row.text.split_once(" ").unwrap_or((row.text, ""));
     WrongLine {
         line: row.line,

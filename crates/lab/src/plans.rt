@@ -1,18 +1,17 @@
 //! Plans in files, each with what the checker is to answer.
 
 use crate::blocks::{HEADING, line_number_at, lines_as_text, lines_below, read_lines};
-use lab_words::{Answered, NumberedLineFault, Question};
-use plan_mistakes::{PlanRefusal, plan_or_reason};
+use lab_words::{Answered, NumberedLineFault, Question, Wanted, WordForm, WordMistake, WrongLine};
+use plan_checker::{PlanFault, accept_plan};
 use script_text::TextWriter;
 use std::alloc::{AllocError, Global};
-use word_mistakes::{Wanted, WordForm, WordMistake, WordRole, WrongLine};
 
 /// What comes before a text that is replaced.
 const REPLACE: &str = "replace: ";
 
-const CHANGES: Wanted = Wanted::Word(WordRole::Change, WordForm::OneOf(&["replace:"]));
+const CHANGES: Wanted = Wanted::Word("a line of a change", WordForm::OneOf(&["replace:"]));
 
-const REPLACEMENTS: Wanted = Wanted::Word(WordRole::Change, WordForm::OneOf(&["with:"]));
+const REPLACEMENTS: Wanted = Wanted::Word("a line of a change", WordForm::OneOf(&["with:"]));
 
 // What a heading says: what is expected, and why, and whether the plan is the base of those that follow.
 #[derive(Clone, Copy)]
@@ -22,8 +21,8 @@ struct Heading<'a> {
     is_base: bool,
 }
 
-/// Tries each plan of a text. A plan is below a heading `=== EXPECTED`, where EXPECTED is `accepted`, the number of its fault,
-/// or the line of its refusal, which begins with `plan: `; ` - ` and why may follow. Below `=== base EXPECTED` is a plan that
+/// Tries each plan of a text. A plan is below a heading `=== EXPECTED`, where EXPECTED is `accepted` or the number of its fault;
+/// ` - ` and why may follow. Below `=== base EXPECTED` is a plan that
 /// the next ones change: each `replace: OLD` has a line `with: NEW` after it, and OLD is in the plan so far exactly once.
 /// Empty lines are passed over. What is below `=== # ...` or before the first heading is a remark.
 ///
@@ -90,14 +89,13 @@ fn try_plan<'a>(
     heading: Heading<'a>,
     plan: &str,
 ) -> Result<Answered<'a>, AllocError> {
-    let tells_why = !heading.is_base && heading.expected.starts_with("plan: ");
     Ok(Answered {
         question: Question {
             line,
             text: heading.why,
             expected: Some(heading.expected),
         },
-        answer: answer_plan(alloc, plan, tells_why)?,
+        answer: answer_plan(alloc, plan)?,
     })
 }
 
@@ -178,7 +176,7 @@ fn wrong_change(number: u64, line: &str, wanted: Wanted) -> NumberedLineFault {
 
 // What is to be replaced isn't in the plan exactly once.
 fn not_once(replaced: ReplacedText) -> NumberedLineFault {
-    let wanted = Wanted::Word(WordRole::Replaced, WordForm::Once);
+    let wanted = Wanted::Word("what is replaced", WordForm::Once);
     let column = (REPLACE.len() as u64).saturating_add(1);
     NumberedLineFault::Wrong(WrongLine {
         line: replaced.line,
@@ -205,25 +203,11 @@ fn replaced_once(
     }
 }
 
-// What the checker answers: `accepted`, or the number of the plan's fault, or, if that is asked, the line that says where
-// and why the plan is refused.
-fn answer_plan(alloc: Global, plan: &str, tells_why: bool) -> Result<String, AllocError> {
-    match plan_or_reason(alloc, plan.as_bytes()) {
+// What the checker answers: `accepted`, or the number of the plan's fault.
+fn answer_plan(alloc: Global, plan: &str) -> Result<String, AllocError> {
+    match accept_plan(alloc, plan.as_bytes()) {
         Ok(_) => String::from_str(alloc, "accepted"),
-        Err(refusal) => tell_refusal(alloc, &refusal, tells_why),
-    }
-}
-
-fn tell_refusal(
-    alloc: Global,
-    refusal: &PlanRefusal,
-    tells_why: bool,
-) -> Result<String, AllocError> {
-    match refusal {
-        PlanRefusal::NoMemory => Err(AllocError),
-        PlanRefusal::Refused { fault, .. } if !tells_why => {
-            format!(in alloc; "{}", fault.number())
-        }
-        refusal => format!(in alloc; "{refusal}"),
+        Err(PlanFault::NoMemory) => Err(AllocError),
+        Err(fault) => format!(in alloc; "{}", fault.number()),
     }
 }

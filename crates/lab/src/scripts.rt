@@ -18,15 +18,13 @@ pub fn print_script(
     script: Option<&str>,
     what: ScriptUse,
 ) -> Result<String, LabFailure> {
-    match script {
-        Some(path) => {
-            let text = read_file(rt, path)?;
-            print_text(rt, folder_of(path), text.as_slice(), what)
-        }
-        None => {
-            let text = read_whole(rt.alloc(), &mut rt.reader())?;
-            print_text(rt, None, text.as_slice(), what)
-        }
+    let (folder, text) = match script {
+        Some(path) => (folder_of(path), read_file(rt, path)?),
+        None => (None, read_whole(rt.alloc(), &mut rt.reader())?),
+    };
+    match print_text(rt, folder, text.as_slice(), what) {
+        Ok(printed) => Ok(printed),
+        Err(failure) => Err(failure.of_source(text)),
     }
 }
 

@@ -75,7 +75,16 @@ fn hint_of_length(count: usize) -> &'static str {
 #[derive(Drop)]
 pub enum LabFailure {
     /// This text is written to standard error, and the process ends with this status.
-    Shown { text: String, status: u8 },
+    Shown {
+        text: String,
+        status: u8,
+    },
+    /// The same of a text that was read, which is wrong.
+    Refused {
+        text: String,
+        source: Vec<u8>,
+        status: u8,
+    },
     Memory,
     /// Standard input can't be read, or standard output can't be written.
     Io,
@@ -93,6 +102,18 @@ impl LabFailure {
     /// A line says this.
     pub fn of_line<T: fmt::Display>(alloc: Global, told: &T, status: u8) -> LabFailure {
         LabFailure::of_text(format!(in alloc; "{told}\n"), status)
+    }
+
+    /// The same failure, of this text.
+    pub fn of_source(self, source: Vec<u8>) -> LabFailure {
+        match self {
+            LabFailure::Shown { text, status } => LabFailure::Refused {
+                text,
+                source,
+                status,
+            },
+            failure => failure,
+        }
     }
 
     // `clap` refuses the words.
@@ -130,7 +151,7 @@ impl LabFailure {
     // The text for standard error.
     fn text(&self) -> &str {
         match self {
-            LabFailure::Shown { text, .. } => text.as_str(),
+            LabFailure::Shown { text, .. } | LabFailure::Refused { text, .. } => text.as_str(),
             LabFailure::Memory => "memory\n",
             LabFailure::Io => "io\n",
         }
@@ -139,7 +160,7 @@ impl LabFailure {
     // The status of the process.
     fn status(&self) -> u8 {
         match self {
-            LabFailure::Shown { status, .. } => *status,
+            LabFailure::Shown { status, .. } | LabFailure::Refused { status, .. } => *status,
             LabFailure::Memory => NO_MEMORY,
             LabFailure::Io => NOT_READ,
         }

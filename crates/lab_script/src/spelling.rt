@@ -3,11 +3,11 @@
 use crate::expanding::{Expansion, LoadedFile};
 use crate::form::{Shorthand, ShorthandLine};
 use crate::loading::loading_lines;
+use lab_words::ShownWord;
 use script_lines::{LineWords, parse_target};
 use script_text::TextWriter;
 use shorthand_lines::{ShorthandFault, ShorthandVerb, parse_shorthand};
 use std::alloc::{AllocError, Global};
-use word_mistakes::ShownWord;
 
 const NO_PORT: &str = " is no port number: decimal digits, 0 to 31";
 
@@ -94,7 +94,7 @@ fn refuse_words(text: &mut TextWriter, line: ShorthandLine<'_>, verb: ShorthandV
     text.push("too many words: ");
     line.write_form(text);
     if line.rest.ends_with(" ") {
-        text.push(" (a blank stands at the end of the line)");
+        text.push(" (there is a space at the end of the line)");
     }
     text.push("\n");
 }
@@ -125,7 +125,7 @@ fn refuse(text: &mut TextWriter, line: ShorthandLine<'_>, word: &str, wrong: &st
         text.keep_failure(written);
         text.push(wrong);
         if word.ends_with(" ") {
-            text.push(" (a blank stands at the end of the line)");
+            text.push(" (there is a space at the end of the line)");
         }
     }
     text.push("\n");

@@ -1,2 +1,3 @@
 -- what only helps contracts
+pub mod Columns
 pub mod Rows

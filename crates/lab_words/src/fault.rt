@@ -1,8 +1,8 @@
 //! Why a line can't be done.
 
+use crate::mistake::{WordMistake, WrongLine};
 use std::alloc::AllocError;
 use thiserror::Error;
-use word_mistakes::{WordMistake, WrongLine};
 
 /// Why the words of a line ask nothing.
 #[derive(Clone, Copy, Debug, Error)]

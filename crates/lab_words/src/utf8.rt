@@ -2,8 +2,9 @@
 ghost use Rattle.std.specs.Prelude.{◌≡◌, IfOk};
 
 use crate::fault::NumberedLineFault;
+use crate::mistake::{MetText, WordMistake, WrongLine, column_at};
+use crate::wanted::Wanted;
 use script_text::NumberedLine;
-use word_mistakes::{MetText, Wanted, WordMistake, WrongLine, column_at};
 
 /// The line as a text; `Wrong` with the first byte that isn't UTF-8, if one isn't.
 pub fn line_as_str(line: NumberedLine<'_>) -> Result<&str, NumberedLineFault>
@@ -24,7 +25,6 @@ fn not_utf8(line: NumberedLine<'_>, place: usize) -> WrongLine {
             column: column_at(line.text, place),
             met: MetText::Byte(byte),
             wanted: Wanted::Utf8,
-            hint: None,
         },
     }
 }

@@ -2,11 +2,10 @@
 ghost use Rattle.std.specs.Prelude.{◌≤◌};
 
 use crate::fault::WordFault;
+use crate::mistake::{MetText, ShownWord, WordMistake, column_at};
+use crate::wanted::{Wanted, WordForm};
 use script_text::{HexFault, bytes_of, decimal_number, hexadecimal_word, value_named};
 use std::alloc::{AllocError, Global};
-use word_mistakes::{
-    MetText, ShownWord, Wanted, WordForm, WordHint, WordMistake, WordRole, column_at,
-};
 
 /// A place of a line: a word and what comes after it, or the line's end.
 #[derive(Clone, Copy)]
@@ -37,7 +36,6 @@ impl<'a> WordPlace<'a> {
 struct NotedMistake<'a> {
     place: WordPlace<'a>,
     wanted: Wanted,
-    hint: Option<WordHint>,
 }
 
 /// The words of a line that are still to be read, with single blanks between them.
@@ -106,17 +104,8 @@ impl<'a> Words<'a> {
 
     /// Notes that something else is wanted at a place.
     pub fn reject(&mut self, place: WordPlace<'a>, wanted: Wanted) {
-        self.reject_with(place, wanted, WordHint::of(place.word(), wanted));
-    }
-
-    /// Notes that something else is wanted at a place, and what helps.
-    pub fn reject_with(&mut self, place: WordPlace<'a>, wanted: Wanted, hint: Option<WordHint>) {
         if self.noted.is_none() {
-            self.noted = Some(NotedMistake {
-                place,
-                wanted,
-                hint,
-            });
+            self.noted = Some(NotedMistake { place, wanted });
         }
     }
 
@@ -142,17 +131,17 @@ impl<'a> Words<'a> {
     }
 
     /// A decimal number, at most so great.
-    pub fn decimal(&mut self, role: WordRole, most: u64) -> u64
+    pub fn decimal(&mut self, what: &'static str, most: u64) -> u64
         ensures { result ≤ most }
     {
-        self.decimal_from(role, 0, most)
+        self.decimal_from(what, 0, most)
     }
 
     /// A decimal number of a range, or 0 in its place.
-    pub fn decimal_from(&mut self, role: WordRole, least: u64, most: u64) -> u64
+    pub fn decimal_from(&mut self, what: &'static str, least: u64, most: u64) -> u64
         ensures { result ≤ most }
     {
-        let wanted = Wanted::decimal(role, least, most);
+        let wanted = Wanted::decimal(what, least, most);
         let place = self.next;
         match decimal_number(self.take(wanted)) {
             Some(number) if least <= number && number <= most => number,
@@ -164,13 +153,13 @@ impl<'a> Words<'a> {
     }
 
     /// A decimal number below 256.
-    pub fn small_decimal(&mut self, role: WordRole) -> u8 {
-        self.decimal(role, 255) as u8
+    pub fn small_decimal(&mut self, what: &'static str) -> u8 {
+        self.decimal(what, 255) as u8
     }
 
     /// A word of 32 bits in hexadecimal digits.
-    pub fn hexadecimal(&mut self, role: WordRole) -> u32 {
-        let wanted = Wanted::Word(role, WordForm::Hexadecimal);
+    pub fn hexadecimal(&mut self, what: &'static str) -> u32 {
+        let wanted = Wanted::Word(what, WordForm::Hexadecimal);
         let place = self.next;
         let word = self.take(wanted);
         self.or_reject(place, hexadecimal_word(word), 0, wanted)
@@ -178,7 +167,7 @@ impl<'a> Words<'a> {
 
     /// A byte in two hexadecimal digits.
     pub fn byte(&mut self, form: WordForm) -> u8 {
-        let wanted = Wanted::Word(WordRole::Byte, form);
+        let wanted = Wanted::Word("a byte", form);
         let place = self.next;
         let word = self.take(wanted);
         match hexadecimal_word(word) {
@@ -192,7 +181,7 @@ impl<'a> Words<'a> {
 
     /// Bytes in two hexadecimal digits each, at least one byte.
     pub fn bytes(&mut self, alloc: Global) -> Result<Vec<u8>, AllocError> {
-        let wanted = Wanted::Word(WordRole::Bytes, WordForm::DigitPairs);
+        let wanted = Wanted::Word("bytes", WordForm::DigitPairs);
         let place = self.next;
         match bytes_of(alloc, self.take(wanted)) {
             Ok(bytes) => Ok(bytes),
@@ -205,8 +194,8 @@ impl<'a> Words<'a> {
     }
 
     /// 0 or 1.
-    pub fn flag(&mut self, role: WordRole) -> bool {
-        self.decimal(role, 1) == 1
+    pub fn flag(&mut self, what: &'static str) -> bool {
+        self.decimal(what, 1) == 1
     }
 
     /// What was read, if all words were right and none is left; `Wrong` with the first mistake if not.
@@ -223,11 +212,7 @@ impl<'a> Words<'a> {
 
     // Where the line is wrong, and how.
     fn mistake(&self, noted: NotedMistake) -> WordMistake {
-        let NotedMistake {
-            place,
-            wanted,
-            hint,
-        } = noted;
+        let NotedMistake { place, wanted } = noted;
         let left = match place.rest {
             Some(rest) => rest.len(),
             None => 0,
@@ -248,10 +233,6 @@ impl<'a> Words<'a> {
             column,
             met,
             wanted,
-            hint: match met {
-                MetText::End => None,
-                _ => hint,
-            },
         }
     }
 }

@@ -1,14 +1,12 @@
 //! Instructions as bytes of code.
 
-use crate::left_out::left_out;
-use lab_words::{WordPlace, Words};
+use lab_words::{Wanted, WordForm, Words};
 use std::alloc::{AllocError, Global};
-use t414_assembly::{Mnemonic, mnemonic_named, nearest_instruction, operand_of, spell};
+use t414_assembly::{Mnemonic, mnemonic_named, operand_of, spell};
 use t414_decode::Function;
-use word_mistakes::{Wanted, WordForm, WordHint, WordRole};
 
 /// An instruction, as the assembler has it.
-pub const INSTRUCTION: Wanted = Wanted::Word(WordRole::Instruction, WordForm::Instruction);
+pub const INSTRUCTION: Wanted = Wanted::Word("an instruction", WordForm::Instruction);
 
 /// Reads an instruction as the assembler does, and appends its bytes to `code`: a function and its operand, an operation, or
 /// `hex` and bytes. Returns whether there was one; if there was none nothing is read.
@@ -34,29 +32,8 @@ pub fn read_instruction(
     Ok(true)
 }
 
-/// Notes that something else is wanted at a place, where an instruction might be.
-pub fn reject_instruction<'a>(words: &mut Words<'a>, place: WordPlace<'a>, wanted: Wanted) {
-    words.reject_with(place, wanted, instruction_hint(place.word(), wanted));
-}
-
-// A hint where a word is there instead of an instruction.
-fn instruction_hint(word: &str, wanted: Wanted) -> Option<WordHint> {
-    match left_out(word) {
-        Some(group) => Some(WordHint::LeftOut(group)),
-        None => WordHint::of(word, wanted).or(nearest_hint(word)),
-    }
-}
-
-// The name of the instruction that is nearest to a word.
-fn nearest_hint(word: &str) -> Option<WordHint> {
-    match nearest_instruction(word) {
-        Some(name) => Some(WordHint::Nearest(name)),
-        None => None,
-    }
-}
-
 fn read_operand(words: &mut Words) -> u32 {
-    let wanted = Wanted::Word(WordRole::Operand, WordForm::Operand);
+    let wanted = Wanted::Word("an operand", WordForm::Operand);
     let place = words.place();
     let word = words.take(wanted);
     words.or_reject(place, operand_of(word), 0, wanted)

@@ -1,12 +1,11 @@
 //! The lines of a text, each read as what it asks for.
 
-use crate::codes::{INSTRUCTION, read_instruction, reject_instruction};
+use crate::codes::{INSTRUCTION, read_instruction};
 use crate::settings::{NodeSettings, read_link};
 use bootstrap::{LinkNumber, Packet, is_memory_size};
-use lab_words::{WordFault, Words};
+use lab_words::{Wanted, WordFault, WordForm, Words};
 use script_text::decimal_number;
 use std::alloc::{AllocError, Global};
-use word_mistakes::{Wanted, WordForm, WordRole};
 
 /// What a line asks for.
 #[derive(Drop)]
@@ -156,7 +155,7 @@ const VERB_NAMES: [&str; 20] = [
 /// What a line asks for. `Wrong` with the first word that is wrong or missing, or that comes after the end.
 pub fn read_command(alloc: Global, line: &str) -> Result<TraceCommand, WordFault> {
     let mut words = Words::of(line);
-    let wanted = Wanted::Word(WordRole::NodeVerb, WordForm::OneOf(&VERB_NAMES));
+    let wanted = Wanted::Word("a verb of a node", WordForm::OneOf(&VERB_NAMES));
     let verb = words.value_in(&VERBS, TraceVerb::Look, wanted);
     let command = read_behind(alloc, verb, &mut words)?;
     words.finish(command)
@@ -180,10 +179,10 @@ fn read_behind(
         TraceVerb::Look => TraceCommand::Ask(Query::Look),
         TraceVerb::Quiet => TraceCommand::Ask(Query::Quiet),
         TraceVerb::Registers => TraceCommand::Ask(Query::Registers),
-        TraceVerb::Word => TraceCommand::Ask(Query::Word(words.hexadecimal(WordRole::Address))),
+        TraceVerb::Word => TraceCommand::Ask(Query::Word(words.hexadecimal("an address"))),
         TraceVerb::Step => TraceCommand::Step(read_steps_or_one(words)),
         TraceVerb::Take => TraceCommand::Take(read_link(words)),
-        TraceVerb::Peek => TraceCommand::Peek(words.hexadecimal(WordRole::Address)),
+        TraceVerb::Peek => TraceCommand::Peek(words.hexadecimal("an address")),
         TraceVerb::Run => TraceCommand::NodeChange(NodeChange::Run(read_steps(words))),
         TraceVerb::Deliver => TraceCommand::NodeChange(NodeChange::Deliver(
             read_link(words),
@@ -201,8 +200,8 @@ fn read_behind(
         )),
         TraceVerb::Receive => TraceCommand::NodeChange(NodeChange::Receive(read_link(words))),
         TraceVerb::Poke => TraceCommand::NodeChange(NodeChange::Poke(
-            words.hexadecimal(WordRole::Address),
-            words.hexadecimal(WordRole::Word),
+            words.hexadecimal("an address"),
+            words.hexadecimal("a word"),
         )),
     })
 }
@@ -213,10 +212,7 @@ fn read_size(words: &mut Words) -> usize {
         return 4096;
     };
     let (least, most) = (2048, 65_536);
-    let wanted = Wanted::Word(
-        WordRole::MemorySize,
-        WordForm::MultipleOfFour { least, most },
-    );
+    let wanted = Wanted::Word("a size of memory", WordForm::MultipleOfFour { least, most });
     let place = words.place();
     let size = match decimal_number(words.take(wanted)) {
         Some(size) if size <= most => size as usize,
@@ -236,7 +232,7 @@ fn read_trial(alloc: Global, words: &mut Words) -> Result<NodeSettings, AllocErr
     let place = words.place();
     let settings = NodeSettings::read(alloc, words, true)?;
     if settings.code.is_empty() {
-        words.reject_with(place, INSTRUCTION, None);
+        words.reject(place, INSTRUCTION);
     }
     Ok(settings)
 }
@@ -250,7 +246,7 @@ fn read_code(alloc: Global, words: &mut Words) -> Result<Vec<u8>, AllocError> {
         }
         if !read_instruction(alloc, words, &mut code)? {
             let place = words.place();
-            reject_instruction(words, place, INSTRUCTION);
+            words.reject(place, INSTRUCTION);
             break;
         }
     }
@@ -258,7 +254,7 @@ fn read_code(alloc: Global, words: &mut Words) -> Result<Vec<u8>, AllocError> {
 }
 
 fn read_steps(words: &mut Words) -> u64 {
-    words.decimal(WordRole::Steps, u64::MAX)
+    words.decimal("a number of Steps", u64::MAX)
 }
 
 fn read_steps_or_one(words: &mut Words) -> u64 {
@@ -270,7 +266,7 @@ fn read_steps_or_one(words: &mut Words) -> u64 {
 }
 
 fn read_packet(words: &mut Words) -> Packet {
-    let wanted = Wanted::Word(WordRole::Packet, WordForm::OneOf(&PACKET_NAMES));
+    let wanted = Wanted::Word("a packet", WordForm::OneOf(&PACKET_NAMES));
     match words.value_in(&PACKET_KINDS, PacketKind::Acknowledge, wanted) {
         PacketKind::Byte => Packet::Byte(words.byte(WordForm::TwoDigits)),
         PacketKind::Acknowledge => Packet::Ack,

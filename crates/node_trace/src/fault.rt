@@ -1,10 +1,9 @@
 //! Why the lines of a text aren't answered.
 
-use lab_words::NumberedLineFault;
+use lab_words::{NumberedLineFault, WrongLine};
 use std::alloc::AllocError;
 use step_meter::OutOfSteps;
 use thiserror::Error;
-use word_mistakes::WrongLine;
 
 /// Why the lines of a text aren't answered.
 #[derive(Clone, Copy, Debug, Error)]

@@ -11,7 +11,6 @@ mod commands;
 mod fault;
 mod hosts;
 mod instruction;
-mod left_out;
 mod marked;
 mod packets;
 mod performing;

@@ -1,12 +1,11 @@
 //! What a line puts into a node: registers, flags, words of memory, code, and what is at links.
 
-use crate::codes::{read_instruction, reject_instruction};
+use crate::codes::read_instruction;
 use bootstrap::{Cpu, Fault, LinkNumber, Links, Memory, Node, link_of};
-use lab_words::Words;
+use lab_words::{Wanted, WordForm, Words};
 use link_channels::Link;
 use script_text::value_named;
 use std::alloc::{AllocError, Global};
-use word_mistakes::{Wanted, WordForm, WordHint, WordRole};
 
 /// One thing that is put into a node.
 #[derive(Clone, Copy)]
@@ -205,7 +204,7 @@ fn put_link_flag(link: &mut Link, flag: LinkFlag, value: bool) {
 
 /// The number of a link, 0 to 3.
 pub fn read_link(words: &mut Words) -> LinkNumber {
-    link_of(words.decimal(WordRole::Link, 3) as u8)
+    link_of(words.decimal("a link's number", 3) as u8)
 }
 
 // What the name of a setting stands for.
@@ -304,9 +303,9 @@ fn wanted_setting(has_link: bool, is_code: bool) -> Wanted {
         &STATES[..OF_THE_NODE]
     };
     if is_code {
-        Wanted::Word(WordRole::InstructionOrState, WordForm::InstructionOr(names))
+        Wanted::Word("an instruction or a state", WordForm::InstructionOr(names))
     } else {
-        Wanted::Word(WordRole::State, WordForm::OneOf(names))
+        Wanted::Word("a state", WordForm::OneOf(names))
     }
 }
 
@@ -316,23 +315,23 @@ fn read_setting(link: Option<LinkNumber>, is_code: bool, words: &mut Words) -> S
     let place = words.place();
     match value_named(&FIELDS, words.take(wanted)) {
         Some(SettingField::Register(register)) => {
-            Setting::Register(register, words.hexadecimal(WordRole::Word))
+            Setting::Register(register, words.hexadecimal("a word"))
         }
-        Some(SettingField::Flag(flag)) => Setting::Flag(flag, words.flag(WordRole::Flag)),
+        Some(SettingField::Flag(flag)) => Setting::Flag(flag, words.flag("a flag")),
         Some(SettingField::Bytes) => Setting::Bytes(read_count(words)),
         Some(SettingField::Word) => Setting::Word(
-            words.hexadecimal(WordRole::Address),
-            words.hexadecimal(WordRole::Word),
+            words.hexadecimal("an address"),
+            words.hexadecimal("a word"),
         ),
         Some(SettingField::AtLink(field)) => {
             if link.is_none() {
-                words.reject_with(place, wanted, Some(WordHint::LinkFirst));
+                words.reject(place, wanted);
             }
             let number = link.unwrap_or(LinkNumber::Zero);
             Setting::AtLink(number, read_link_setting(field, words))
         }
         None => {
-            reject_instruction(words, place, wanted);
+            words.reject(place, wanted);
             Setting::Bytes(0)
         }
     }
@@ -343,19 +342,19 @@ fn read_link_setting(field: LinkField, words: &mut Words) -> LinkSetting {
         LinkField::Sends => LinkSetting::Sends(read_byte_or_none(words)),
         LinkField::Holds => LinkSetting::Holds(read_byte_or_none(words)),
         LinkField::Overruns => LinkSetting::Overruns(read_count(words)),
-        LinkField::Flag(flag) => LinkSetting::Flag(flag, words.flag(WordRole::Flag)),
+        LinkField::Flag(flag) => LinkSetting::Flag(flag, words.flag("a flag")),
         LinkField::Input => LinkSetting::Input(read_address(words), read_count(words)),
         LinkField::Output => LinkSetting::Output(read_address(words), read_count(words)),
     }
 }
 
 fn read_address(words: &mut Words) -> u32 {
-    words.hexadecimal(WordRole::Address)
+    words.hexadecimal("an address")
 }
 
 // A decimal count below 2^32.
 fn read_count(words: &mut Words) -> u32 {
-    words.decimal(WordRole::Count, u64::from(u32::MAX)) as u32
+    words.decimal("a count", u64::from(u32::MAX)) as u32
 }
 
 // A byte, or `-` for none.

@@ -1,12 +1,11 @@
 //! Why nothing is said of a record.
 
 use domain_core::Refusal;
-use lab_words::{NumberedLineFault, WordFault};
+use lab_words::{NumberedLineFault, WordFault, WordMistake, WrongLine};
 use plan_checker::PlanFault;
 use std::alloc::{AllocError, AllocFailed};
 use step_meter::OutOfSteps;
 use thiserror::Error;
-use word_mistakes::{WordMistake, WrongLine};
 
 /// Why a line of a record isn't done.
 #[derive(Clone, Copy, Debug, Error)]

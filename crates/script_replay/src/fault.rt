@@ -2,13 +2,11 @@
 
 use farm_records::HeadFault;
 use farm_replay::FarmStop;
-use lab_words::NumberedLineFault;
+use lab_words::{NumberedLineFault, WrongLine};
 use plan_checker::PlanFault;
-use plan_mistakes::PlanRefusal;
 use std::alloc::{AllocError, AllocFailed};
 use step_meter::OutOfSteps;
 use thiserror::Error;
-use word_mistakes::WrongLine;
 
 /// Why a text isn't replayed. None of its lines is answered then.
 #[derive(Debug, Drop, Error)]
@@ -17,14 +15,14 @@ pub enum ReplayFault {
     #[error("plan: {number}: {fault}, in the plan that begins at line {line} (`lab plan` says where)", number = .fault.number())]
     Plan { fault: PlanFault, line: u64 },
     /// The plan that begins at this line is refused, and no line divides it from what comes after it.
-    #[error("plan: {number}: {fault}, in the plan that begins at line {line} (no line behind it is just ---, so all was read as the plan)", number = .fault.number())]
+    #[error("plan: {number}: {fault}, in the plan that begins at line {line} (no line after it is just ---, so all was read as the plan)", number = .fault.number())]
     NoMark { fault: PlanFault, line: u64 },
     /// A line of the whole text is wrong.
     #[error("{0}")]
     Line(WrongLine),
-    /// A user's line is wrong, with the message about it.
-    #[error("{0}")]
-    OfUser(String),
+    /// A user's line is wrong: the message about it, and the line.
+    #[error("{told}")]
+    OfUser { told: String, line: Vec<u8> },
     /// More Steps are wanted than may be done.
     #[error("{0}")]
     Steps(OutOfSteps),
@@ -64,12 +62,12 @@ impl From<FarmStop> for ReplayFault {
 /// Why a script isn't run. None of its lines is answered then.
 #[derive(Debug, Drop, Error)]
 pub enum RunFault {
-    /// The plan is refused, with the place and the reason.
-    #[error("{0}")]
-    Plan(PlanRefusal),
+    /// The plan is refused.
+    #[error("plan: {number}: {fault}", number = .fault.number())]
+    Plan { fault: PlanFault },
     /// The same, and no line divides it from what comes after it.
-    #[error("{0} (no line behind it is just ---, so all was read as the plan)")]
-    NoMark(PlanRefusal),
+    #[error("plan: {number}: {fault} (no line after it is just ---, so all was read as the plan)", number = .fault.number())]
+    NoMark { fault: PlanFault },
     /// Lines are wrong, with a message about each.
     #[error("{0}")]
     Lines(String),
@@ -88,11 +86,11 @@ pub enum RunFault {
 
 impl RunFault {
     /// The plan is refused, and a mark comes after it or doesn't.
-    pub(crate) fn of_plan(refusal: PlanRefusal, is_marked: bool) -> RunFault {
-        match refusal {
-            PlanRefusal::NoMemory => RunFault::Memory(AllocError),
-            refusal if is_marked => RunFault::Plan(refusal),
-            refusal => RunFault::NoMark(refusal),
+    pub fn of_plan(fault: PlanFault, is_marked: bool) -> RunFault {
+        match fault {
+            PlanFault::NoMemory => RunFault::Memory(AllocError),
+            fault if is_marked => RunFault::Plan { fault },
+            fault => RunFault::NoMark { fault },
         }
     }
 }

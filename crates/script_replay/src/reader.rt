@@ -4,7 +4,6 @@ use crate::asks::{AskedLine, UserLine};
 use lab_script::{Expanded, LoadedFile, expanded_line, is_shorthand_line};
 use plan_checker::{AcceptedPlan, UserNumber};
 use script_lines::{LineFault, LineWords, Unread, parse_request};
-use script_mistakes::tell_wrong_line;
 use script_text::{NumberedLine, numbered_lines};
 use std::alloc::{AllocError, Global};
 
@@ -20,7 +19,6 @@ pub(crate) struct NamedUser<'a> {
 pub(crate) struct LineReader<'p> {
     alloc: Global,
     plan: &'p AcceptedPlan,
-    names: Vec<&'p str>,
     files: &'p [LoadedFile<'p>],
 }
 
@@ -30,13 +28,8 @@ impl<'p> LineReader<'p> {
         alloc: Global,
         plan: &'p AcceptedPlan,
         files: &'p [LoadedFile<'p>],
-    ) -> Result<LineReader<'p>, AllocError> {
-        Ok(LineReader {
-            alloc,
-            plan,
-            names: plan.names(alloc)?,
-            files,
-        })
+    ) -> LineReader<'p> {
+        LineReader { alloc, plan, files }
     }
 
     /// The user whose name a line begins with.
@@ -101,11 +94,6 @@ impl<'p> LineReader<'p> {
         self.read_all(user, line.number, text.as_bytes(), asked)
     }
 
-    /// The message about a line that begins with no user's name.
-    pub(crate) fn tell_no_user(&self, line: NumberedLine<'_>) -> Result<String, AllocError> {
-        tell_wrong_line(self.alloc, self.names.as_slice(), line, LineFault::User)
-    }
-
     // The plain lines into which a line is spelled out, if it is a shorthand line.
     fn expansion_of(&self, line: NumberedLine<'_>) -> Result<Option<Expanded>, AllocError> {
         match std::str::from_utf8(line.text) {
@@ -147,12 +135,20 @@ impl<'p> LineReader<'p> {
                 Ok(None)
             }
             Err(Unread::Faulty(fault)) => {
-                let names = self.names.as_slice();
-                Ok(Some(tell_wrong_line(self.alloc, names, line, fault)?))
+                Ok(Some(tell_wrong_line(self.alloc, line.number, fault)?))
             }
             Err(Unread::NoMemory) => Err(AllocError),
         }
     }
+}
+
+/// The message about a line of this number that is wrong, in the words of the program `farm`.
+pub(crate) fn tell_wrong_line(
+    alloc: Global,
+    number: u64,
+    fault: LineFault,
+) -> Result<String, AllocError> {
+    format!(in alloc; "line {number}: {fault}\n")
 }
 
 // Whether a line of the lab may begin with this word.

@@ -3,15 +3,14 @@
 use crate::answering::{AnsweredLines, answer_asked_lines};
 use crate::asks::AskedLine;
 use crate::fault::RunFault;
-use crate::reader::LineReader;
+use crate::reader::{LineReader, tell_wrong_line};
 use crate::recording::record_of;
 use farm_replay::FarmStop;
 use lab_script::LoadedFile;
-use plan_checker::AcceptedPlan;
-use plan_mistakes::plan_or_reason;
-use script_mistakes::WrongLines;
+use plan_checker::{AcceptedPlan, accept_plan};
+use script_lines::LineFault;
 use script_text::{TextWriter, divide_at_plan_end, is_passed_over, numbered_lines};
-use std::alloc::Global;
+use std::alloc::{AllocError, Global};
 use step_meter::StepMeter;
 
 /// Runs the script of a text, which comes after its plan and a line `---`, and gives the output lines of each user, in the
@@ -62,9 +61,45 @@ pub fn record_script<M: StepMeter>(
 
 // The plan of a text. A mark comes after it or doesn't.
 fn plan_of(alloc: Global, text: &[u8], is_marked: bool) -> Result<AcceptedPlan, RunFault> {
-    match plan_or_reason(alloc, text) {
+    match accept_plan(alloc, text) {
         Ok(plan) => Ok(plan),
-        Err(refusal) => Err(RunFault::of_plan(refusal, is_marked)),
+        Err(fault) => Err(RunFault::of_plan(fault, is_marked)),
+    }
+}
+
+/// How many wrong lines have a message of their own.
+const MOST_TOLD: u64 = 100;
+
+// The messages about the lines that are wrong: the first 100 of them, and how many more there are.
+#[derive(Drop)]
+struct WrongLines {
+    text: TextWriter,
+    count: u64,
+}
+
+impl WrongLines {
+    // One more line is wrong, and this is the message about it.
+    fn add(&mut self, told: &str) {
+        if self.count < MOST_TOLD {
+            self.text.push(told);
+        }
+        self.count = self.count.saturating_add(1);
+    }
+
+    // The text of all messages, which is empty if no line is wrong.
+    fn finish(mut self) -> Result<String, AllocError> {
+        let more = self.count.saturating_sub(MOST_TOLD);
+        if more > 0 {
+            self.text.push("and ");
+            self.text.push_decimal(more);
+            self.text.push(if more == 1 {
+                " more line is wrong\n"
+            } else {
+                " more lines are wrong\n"
+            });
+        }
+        let WrongLines { text, count: _ } = self;
+        text.finish()
     }
 }
 
@@ -75,16 +110,19 @@ fn read_lines<'a>(
     script: &'a [u8],
     files: &[LoadedFile<'_>],
 ) -> Result<Vec<AskedLine<'a>>, RunFault> {
-    let reader = LineReader::new(alloc, plan, files)?;
+    let reader = LineReader::new(alloc, plan, files);
     let mut asked = Vec::new(alloc);
-    let mut wrong = WrongLines::new(alloc);
+    let mut wrong = WrongLines {
+        text: TextWriter::new(alloc),
+        count: 0,
+    };
     for line in &numbered_lines(alloc, script)? {
         if is_passed_over(line.text) {
             continue;
         }
         let told = match reader.user_of(line.text) {
             Some(user) => reader.read(user, *line, &mut asked)?,
-            None => Some(reader.tell_no_user(*line)?),
+            None => Some(tell_wrong_line(alloc, line.number, LineFault::User)?),
         };
         if let Some(told) = told {
             wrong.add(told.as_str());

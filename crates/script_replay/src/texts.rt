@@ -146,7 +146,7 @@ fn read_lines<'a>(
     questions: &[Question<'a>],
     files: &[LoadedFile<'_>],
 ) -> Result<FarmLines<'a>, ReplayFault> {
-    let reader = LineReader::new(alloc, plan, files)?;
+    let reader = LineReader::new(alloc, plan, files);
     if has_users(&reader, questions)? {
         read_mixed(alloc, &reader, questions)
     } else {
@@ -216,7 +216,10 @@ fn read_line<'a>(
         return Ok(());
     };
     match reader.read(user, line, asked)? {
-        Some(told) => Err(ReplayFault::OfUser(told)),
+        Some(told) => Err(ReplayFault::OfUser {
+            told,
+            line: Vec::from_slice(alloc, line.text)?,
+        }),
         None => Ok(()),
     }
 }

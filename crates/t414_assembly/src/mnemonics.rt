@@ -1,7 +1,7 @@
 //! The handbook's names of functions and operations.
 
 use crate::codes::byte_of;
-use script_text::{is_near, value_named};
+use script_text::value_named;
 use t414_decode::{Function, decode};
 
 // The names of the functions, by their nibbles.
@@ -92,66 +92,6 @@ const OPERATIONS: [(&str, u32); 74] = [
     ("testhalterr", 0x59),
 ];
 
-// What begins a statement besides the names of instructions.
-const OTHERS: [&str; 6] = ["byte", "word", "align", "space", "def", "local"];
-
-// The names of operations that the processor leaves out, of the T414 and of later transputers, but for those that begin
-// with `fp`.
-//
-// Source: Transputer instruction set handbook, operations.
-const OMISSIONS: [(&str, Omission); 31] = [
-    ("ldtimer", Omission::Timer),
-    ("tin", Omission::Timer),
-    ("talt", Omission::Timer),
-    ("taltwt", Omission::Timer),
-    ("enbt", Omission::Timer),
-    ("dist", Omission::Timer),
-    ("unpacksn", Omission::Float),
-    ("postnormsn", Omission::Float),
-    ("roundsn", Omission::Float),
-    ("ldinf", Omission::Float),
-    ("cflerr", Omission::Float),
-    ("fmul", Omission::Other),
-    ("wcnt", Omission::Other),
-    ("testhardchan", Omission::Other),
-    ("testlds", Omission::Other),
-    ("testlde", Omission::Other),
-    ("testldd", Omission::Other),
-    ("teststs", Omission::Other),
-    ("testste", Omission::Other),
-    ("teststd", Omission::Other),
-    ("dup", Omission::Other),
-    ("wsubdb", Omission::Other),
-    ("bitcnt", Omission::Other),
-    ("bitrevword", Omission::Other),
-    ("bitrevnbits", Omission::Other),
-    ("crcword", Omission::Other),
-    ("crcbyte", Omission::Other),
-    ("move2dinit", Omission::Other),
-    ("move2dall", Omission::Other),
-    ("move2dnonzero", Omission::Other),
-    ("move2dzero", Omission::Other),
-];
-
-/// Of what kind an operation is that the processor leaves out.
-#[derive(Clone, Copy)]
-pub enum Omission {
-    Timer,
-    Float,
-    Other,
-}
-
-impl Omission {
-    /// What is said of it.
-    pub fn text(self) -> &'static str {
-        match self {
-            Omission::Timer => "The farm's processors have no timers",
-            Omission::Float => "The farm's processors have no floating point",
-            Omission::Other => "The farm's processors leave this operation out",
-        }
-    }
-}
-
 /// What the name of an instruction stands for.
 #[derive(Clone, Copy)]
 pub enum Mnemonic {
@@ -187,84 +127,4 @@ pub fn mnemonic_named(name: &str) -> Option<Mnemonic> {
         Some(code) => Some(Mnemonic::Operation(code)),
         None => None,
     }
-}
-
-/// Of what kind an operation is that the processor leaves out, if the name in either case is one of those.
-pub fn omission_named(name: &str) -> Option<Omission> {
-    if name.starts_with("fp") || name.starts_with("FP") {
-        return Some(Omission::Float);
-    }
-    for (operation, omission) in &OMISSIONS {
-        if operation.eq_ignore_ascii_case(name) {
-            return Some(*omission);
-        }
-    }
-    None
-}
-
-/// The name that begins a statement and differs from this one in case, if there is one.
-pub fn name_in_lower_case(name: &str) -> Option<&'static str> {
-    same_letters(&FUNCTIONS, name)
-        .or(same_letters(&OTHERS, name))
-        .or(operation_in_lower_case(name))
-}
-
-// The name of some that differs from this one in case at most.
-fn same_letters(names: &[&'static str], name: &str) -> Option<&'static str> {
-    for it in names {
-        if it.eq_ignore_ascii_case(name) {
-            return Some(*it);
-        }
-    }
-    None
-}
-
-// The same of the operations.
-fn operation_in_lower_case(name: &str) -> Option<&'static str> {
-    for (operation, _) in &OPERATIONS {
-        if operation.eq_ignore_ascii_case(name) {
-            return Some(*operation);
-        }
-    }
-    None
-}
-
-// The first of some names that is near to a word, with at most `slips` slips.
-fn name_near(word: &str, names: &[&'static str], slips: u8) -> Option<&'static str> {
-    for name in names {
-        if is_near(word, *name, slips) {
-            return Some(*name);
-        }
-    }
-    None
-}
-
-// The same of the operations.
-fn operation_near(word: &str, slips: u8) -> Option<&'static str> {
-    for (operation, _) in &OPERATIONS {
-        if is_near(word, *operation, slips) {
-            return Some(*operation);
-        }
-    }
-    None
-}
-
-// The first name of an instruction that is near to a word, in the same way.
-fn instruction_near(word: &str, slips: u8) -> Option<&'static str> {
-    name_near(word, &FUNCTIONS, slips).or(operation_near(word, slips))
-}
-
-// The same of all names that begin a statement, directives before instructions.
-fn statement_near(word: &str, slips: u8) -> Option<&'static str> {
-    name_near(word, &OTHERS, slips).or(instruction_near(word, slips))
-}
-
-/// The name of the instruction that is nearest to a word, as `nearest_name` has it.
-pub fn nearest_instruction(word: &str) -> Option<&'static str> {
-    instruction_near(word, 1).or(instruction_near(word, 2))
-}
-
-/// The name that begins a statement and is nearest to a word, in the same way.
-pub fn nearest_statement(word: &str) -> Option<&'static str> {
-    statement_near(word, 1).or(statement_near(word, 2))
 }

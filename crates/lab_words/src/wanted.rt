@@ -2,92 +2,6 @@
 
 use std::fmt;
 
-/// What a word of a line is for.
-#[derive(Clone, Copy)]
-pub enum WordRole {
-    /// The first word of a line that asks a domain.
-    Domain,
-    User,
-    Host,
-    Node,
-    Port,
-    Output,
-    Ticket,
-    Link,
-    /// What is asked of a domain.
-    DomainVerb,
-    /// What is asked of a node alone.
-    NodeVerb,
-    /// How often a line is asked.
-    Times,
-    Steps,
-    Quantum,
-    Rounds,
-    Byte,
-    Bytes,
-    Address,
-    /// A word of memory or of a register.
-    Word,
-    Count,
-    Flag,
-    MemorySize,
-    /// What a line puts into a node.
-    State,
-    Instruction,
-    InstructionOrState,
-    Operand,
-    Packet,
-    /// What is replaced in a plan, or by what.
-    Change,
-    /// What a change replaces.
-    Replaced,
-    /// What reads a row.
-    Subcommand,
-}
-
-impl WordRole {
-    // What it is called.
-    fn text(self) -> &'static str {
-        match self {
-            WordRole::Domain => "a domain's number",
-            WordRole::User => "the user who asks",
-            WordRole::Host => "a host's number",
-            WordRole::Node => "a node's number",
-            WordRole::Port => "a port's number",
-            WordRole::Output => "an output's number",
-            WordRole::Ticket => "a ticket's number",
-            WordRole::Link => "a link's number",
-            WordRole::DomainVerb => "a verb of a domain",
-            WordRole::NodeVerb => "a verb of a node",
-            WordRole::Times => "a number of times",
-            WordRole::Steps => "a number of Steps",
-            WordRole::Quantum => "a quantum of Steps",
-            WordRole::Rounds => "a number of rounds",
-            WordRole::Byte => "a byte",
-            WordRole::Bytes => "bytes",
-            WordRole::Address => "an address",
-            WordRole::Word => "a word",
-            WordRole::Count => "a count",
-            WordRole::Flag => "a flag",
-            WordRole::MemorySize => "a size of memory",
-            WordRole::State => "a state",
-            WordRole::Instruction => "an instruction",
-            WordRole::InstructionOrState => "an instruction or a state",
-            WordRole::Operand => "an operand",
-            WordRole::Packet => "a packet",
-            WordRole::Change => "a line of a change",
-            WordRole::Replaced => "what is replaced",
-            WordRole::Subcommand => "a subcommand",
-        }
-    }
-}
-
-impl fmt::Display for WordRole {
-    fn fmt<W: fmt::Write>(&self, f: &mut fmt::Formatter<W>) -> fmt::Result {
-        f.write_str(self.text())
-    }
-}
-
 /// How a word is written.
 #[derive(Clone, Copy)]
 pub enum WordForm {
@@ -185,8 +99,8 @@ fn before_name(place: usize, count: usize) -> &'static str {
 /// What a line should have at a place.
 #[derive(Clone, Copy)]
 pub enum Wanted {
-    /// A word for something, in its form.
-    Word(WordRole, WordForm),
+    /// A word for this, in its form.
+    Word(&'static str, WordForm),
     /// The end of the line.
     End,
     /// Bytes of UTF-8.
@@ -195,15 +109,15 @@ pub enum Wanted {
 
 impl Wanted {
     /// A decimal number of this range.
-    pub fn decimal(role: WordRole, least: u64, most: u64) -> Wanted {
-        Wanted::Word(role, WordForm::Decimal { least, most })
+    pub fn decimal(what: &'static str, least: u64, most: u64) -> Wanted {
+        Wanted::Word(what, WordForm::Decimal { least, most })
     }
 }
 
 impl fmt::Display for Wanted {
     fn fmt<W: fmt::Write>(&self, f: &mut fmt::Formatter<W>) -> fmt::Result {
         match self {
-            Wanted::Word(role, form) => write!(f, "{role} should be: {form}"),
+            Wanted::Word(what, form) => write!(f, "{what} should be: {form}"),
             Wanted::End => f.write_str("the line should end"),
             Wanted::Utf8 => f.write_str("a character in UTF-8 should be"),
         }

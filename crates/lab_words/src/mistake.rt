@@ -1,8 +1,7 @@
 //! Where and how a line is wrong.
 ghost use Rattle.std.specs.Prelude.{◌≡◌};
-ghost use Rattle.word_mistakes.specs.Columns.{begins_character, column_of};
+ghost use Rattle.lab_words.specs.Columns.{begins_character, column_of};
 
-use crate::hint::WordHint;
 use crate::wanted::Wanted;
 use std::fmt;
 use thiserror::Error;
@@ -79,7 +78,6 @@ pub struct WordMistake {
     pub column: u64,
     pub met: MetText,
     pub wanted: Wanted,
-    pub hint: Option<WordHint>,
 }
 
 impl WordMistake {
@@ -94,7 +92,6 @@ impl WordMistake {
             column,
             met,
             wanted,
-            hint: None,
         }
     }
 }
@@ -112,11 +109,7 @@ impl fmt::Display for WordMistake {
             f,
             "column {}: {} where {}",
             self.column, self.met, self.wanted
-        )?;
-        match self.hint {
-            Some(hint) => write!(f, " ({hint})"),
-            None => Ok(()),
-        }
+        )
     }
 }
 

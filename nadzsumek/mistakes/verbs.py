@@ -1,39 +1,40 @@
-"""The verbs that a person at a terminal has, and what stands behind each."""
+"""The verbs of a user and of the operator: the words after each, an example, and what it does. Terminals, scripts in Python and what
+is said of the lines of a script use this table."""
 
 from __future__ import annotations
 
-import difflib
 import re
-from typing import TYPE_CHECKING, NamedTuple
+from collections.abc import Mapping
+from typing import NamedTuple, Protocol
 
-from .hints import meant
-
-if TYPE_CHECKING:
-    from .ports import Ports
+from .elsewhere import meant
+from .nearness import nearest
 
 
 class Kind(NamedTuple):
-    """What a word behind a verb must be."""
+    """What a word after a verb must be, and what stands for it in the form of a line."""
 
     pattern: str
     most: int
     meaning: str
     example: str
+    letters: str = ""
 
 
-HEX = Kind(r"([0-9a-fA-F]{2})+", 0, "an even number of hexadecimal digits", "01000103")
-WORD = Kind(r"[0-9a-fA-F]{8}", 0, "eight hexadecimal digits", "80000100")
-HOST = Kind(r"\d+", 255, "the number of a host", "0")
-NODE = Kind(r"\d+", 255, "the number of a node", "0")
-PORT = Kind(r"\d+", 31, "the number of a port", "7")
-FILE = Kind(r".+", 0, "a file", "hello.s")
-TEXT = Kind(r".+", 0, "a text", '"hello\\n"')
+HEX = Kind(r"([0-9a-fA-F]{2})+", 0, "an even number of hexadecimal digits", "01000103", "HEX")
+ADDRESS = Kind(r"[0-9a-fA-F]{8}", 0, "eight hexadecimal digits", "80000100", "ADDR")
+WORD = ADDRESS._replace(letters="WORD")
+HOST = Kind(r"\d+", 255, "the number of a host", "0", "HOST")
+NODE = Kind(r"\d+", 255, "the number of a node", "0", "NODE")
+PORT = Kind(r"\d+", 31, "the number of a port", "7", "PORT")
+FILE = Kind(r".+", 0, "a file", "hello.s", "FILE")
+TEXT = Kind(r".+", 0, "a text", '"hello\\n"', '"TEXT"')
 SENTENCE = Kind(r".+", 0, "a sentence", "we end at five")
 USER = Kind(r"[a-z0-9-]{1,32}", 0, "a user's name", "ann")
 
 
 class Verb(NamedTuple):
-    """The words behind a verb, an example, what the verb does, how many of the words may be left out, and what else is
+    """The words after a verb, an example, what the verb does, how many of the words may be left out, and what else is
     to be known."""
 
     kinds: tuple[Kind, ...]
@@ -61,8 +62,10 @@ USERS = {
     "boot": Verb(
         (HOST, HEX), "boot 0 b424f224f2243081ff21f5", "boots the node that is joined with the host with this code"
     ),
-    "poke": Verb((HOST, WORD, WORD), "poke 0 80000100 12345678", "stores a word in a booting node, through the host"),
-    "peek": Verb((HOST, WORD), "peek 0 80000100", "reads a word of a booting node, through the host"),
+    "poke": Verb(
+        (HOST, ADDRESS, WORD), "poke 0 80000100 12345678", "stores a word in a booting node, through the host"
+    ),
+    "peek": Verb((HOST, ADDRESS), "peek 0 80000100", "reads a word of a booting node, through the host"),
     "collect": Verb((HOST,), "collect 0", "takes all bytes that came to the host"),
     "reset": Verb((NODE,), "reset 0", "resets a node; its memory stays"),
     "look": Verb((NODE,), "look 0", "tells a node's state, and how many bytes each link dropped"),
@@ -97,6 +100,9 @@ ALL = {
     "help": Verb((), "help load", "lists the verbs, or tells of one"),
     "quit": Verb((), "quit", "leaves the farm as it is and ends this terminal, as exit and Ctrl-D do"),
 }
+# The verbs of a script for `farm`, and those that the lab spells out.
+OF_SCRIPTS = ("config", "write", "boot", "poke", "peek", "collect", "reset", "look")
+SHORTHAND = ("load", "join", "send", "text")
 # Another word for a verb.
 ALIASES = {"exit": "quit"}
 # The verbs whose answers begin with a number of their lines.
@@ -107,7 +113,24 @@ class Wrong(Exception):
     """A line that isn't sent: which word is wrong, and what to try."""
 
 
+class Ports(Protocol):
+    """The ports of a user that examples name: one of a link, one of a host, and that host's number."""
+
+    @property
+    def link(self) -> int:
+        ...
+
+    @property
+    def port(self) -> int:
+        ...
+
+    @property
+    def host(self) -> int:
+        ...
+
+
 def is_of(kind: Kind, word: str) -> bool:
+    """Whether a word is of a kind."""
     if re.fullmatch(kind.pattern, word, re.ASCII) is None:
         return False
     digits = word.lstrip("0") or "0"
@@ -133,22 +156,20 @@ def with_ports(ports: Ports) -> dict[str, Verb]:
     return {**USERS, **own}
 
 
-def find(table: dict[str, Verb], word: str) -> Verb:
+def find(table: Mapping[str, Verb], word: str) -> Verb:
     """The verb of this name."""
     if word in table:
         return table[word]
-    hint = meant(word, table) if word.lower() not in table else None
+    hint = meant(word, table) if word.lower() not in (*table, *ALIASES) else None
     if hint:
         raise Wrong(f"there is no verb {word!r}. {hint}")
     examples = {name: verb.example for name, verb in table.items()} | {it: it for it in ALIASES}
-    near = difflib.get_close_matches(word.lower(), examples, 1, 0.5)
-    raise Wrong(
-        f"there is no verb {word!r}. " + (f"Is it {near[0]}? Try: {examples[near[0]]}" if near else "Try: help")
-    )
+    near = nearest(word.lower(), examples, 0.5)
+    raise Wrong(f"there is no verb {word!r}. " + (f"Is it {near}? Try: {examples[near]}" if near else "Try: help"))
 
 
 def check(name: str, verb: Verb, words: list[str]) -> None:
-    """Refuses the words behind a verb if their number is wrong, or one of them."""
+    """Refuses the words after a verb if their number is wrong, or one of them."""
     for kind, word in zip(verb.kinds, words):
         if not is_of(kind, word):
             raise Wrong(
@@ -168,7 +189,7 @@ def goes_on(answer: str) -> bool:
     return answer.startswith("why ") and not re.fullmatch(r"why (end|\d+ nosuch)", answer)
 
 
-def help_lines(table: dict[str, Verb], word: str | None = None) -> list[str]:
+def help_lines(table: Mapping[str, Verb], word: str | None = None) -> list[str]:
     """An example of each verb with what it does, or of one."""
     chosen = {word: find(table, word)} if word else table
     return [

@@ -1,2 +1,0 @@
--- what only helps contracts
-pub mod Refusal
