@@ -2,11 +2,15 @@
 // The programs of nodes, their instructions, and what their links do, as texts.
 
 // the line of a node's program that has the byte at an address
-const sourceAt = (number, address) => sources.find((it) => it.node === number && it.address <= address && address < it.address + it.length);
+const sourceAt = (number, address) =>
+  sources.find((it) => it.node === number && it.address <= address && address < it.address + it.length);
 const hasSources = (number) => sources.some((it) => it.node === number);
 // the number of a line of occam, and in brackets that of the instance which had it put in place
 const numbered = (it) => "line " + it.occam_line + (it.instance === undefined ? "" : " (" + it.instance + ")");
-const labelled = (it) => (it.occam_line !== undefined ? numbered(it) : it.label === undefined ? "" : it.label + (it.behind ? "+" + it.behind : ""));
+function labelled(it) {
+  if (it.occam_line !== undefined) return numbered(it);
+  return it.label === undefined ? "" : it.label + (it.behind ? "+" + it.behind : "");
+}
 // where an address is in the text of a program of occam
 function occamText(number, address) {
   const line = sourceAt(number, address);
@@ -19,7 +23,8 @@ const bytesCounted = (count) => count + (count === 1 ? " byte" : " bytes");
 const LINK_FACTS = [["sends", (it) => "sends byte " + hex(it, 2)], ["holds", (it) => "holds byte " + hex(it, 2)],
   ["acknowledges", () => "sends an acknowledge"], ["awaits", () => "awaits an acknowledge"],
   ["acknowledged", () => "has an acknowledge"], ["watched", () => "an alternative waits for a byte"],
-  ["wanted", (it) => "a process waits for " + bytesCounted(it)], ["left", (it) => bytesCounted(it) + " to be sent after that one"]];
+  ["wanted", (it) => "a process waits for " + bytesCounted(it)],
+  ["left", (it) => bytesCounted(it) + " to be sent after that one"]];
 
 // What a link of a node does; nothing if nothing is under way.
 function linkText(facts, number, link) {
@@ -32,7 +37,8 @@ function linkText(facts, number, link) {
 const names = new Map(plan.operations.map((it) => [it.code, it.name]));
 const isPrefix = (byte) => byte >> 4 === 2 || byte >> 4 === 6;
 
-// the instruction that begins at a place, and the place after it; nothing if its bytes aren't known. `code` gives the byte at a place
+// the instruction that begins at a place, and the place after it; nothing if its bytes aren't known
+// `code` gives the byte at a place
 function instructionAt(code, place) {
   let operand = 0;
   for (let at = place; at < place + 16; at += 1) {
@@ -58,12 +64,13 @@ function prefixesBefore(code, end, most) {
   return at;
 }
 
-// The instructions before and after the instruction pointer. Only the bytes around it are those of now: 16 before, 32 after.
+// The instructions around the instruction pointer. Only the bytes around it are those of now: 16 before, 32 after.
 function listing(code, registers) {
   const here = registers.Iptr - START, lowest = here - 16;
   const begin = registers.O === 0 ? here : prefixesBefore(code, here, 8);
   const found = [];
-  for (let end = begin; found.length < 4 && end - 1 >= lowest && code(end - 1) !== undefined && !isPrefix(code(end - 1)); ) {
+  for (let end = begin; found.length < 4 && end - 1 >= lowest && code(end - 1) !== undefined &&
+    !isPrefix(code(end - 1)); ) {
     const it = instructionAt(code, prefixesBefore(code, end - 1, 8));
     if (!it || it.place < lowest) break;
     found.unshift(it);

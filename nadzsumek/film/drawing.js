@@ -24,13 +24,16 @@ const isTouched = (change, of) => Object.keys(change).some((it) => it.startsWith
 
 // ---- hosts
 
-const printable = (bytes) => bytes.map((it) => (it >= 32 && it < 127 ? String.fromCharCode(it) : it === 10 ? "\u21b5" : "\u00b7")).join("");
+const letter = (byte) => (byte >= 32 && byte < 127 ? String.fromCharCode(byte) : byte === 10 ? "\u21b5" : "\u00b7");
+const printable = (bytes) => bytes.map(letter).join("");
 
 // The last 64 of some bytes, as digits and as letters.
 function bytesShown(name, bytes, count, id) {
   const kept = bytes.slice(-64), rest = count - kept.length;
-  const box = made("div", "queue", made("div", "faint", name + ": " + told(count) + (rest > 0 ? ", the last 64 are" : "")));
-  if (kept.length) box.append(made("pre", "", kept.map((it) => hex(it, 2)).join(" ")), made("pre", "faint", printable(kept)));
+  const above = name + ": " + told(count) + (rest > 0 ? ", the last 64 are" : "");
+  const box = made("div", "queue", made("div", "faint", above));
+  if (kept.length) box.append(made("pre", "", kept.map((it) => hex(it, 2)).join(" ")),
+    made("pre", "faint", printable(kept)));
   box.id = id;
   return box;
 }
@@ -45,7 +48,8 @@ function hostShown(facts, number, frame, change) {
   const queue = (name) => bytesOf(facts["host " + number + " " + name] || "");
   const sending = queue("sending"), received = queue("received");
   const port = plan.ports.findIndex((it) => it.host === number), user = plan.users[plan.hosts[number]];
-  const box = made("section", isTouched(change, "host " + number) ? "touched" : "", made("h2", "", "host " + number + " of " + user + ", port " + port));
+  const box = made("section", isTouched(change, "host " + number) ? "touched" : "",
+    made("h2", "", "host " + number + " of " + user + ", port " + port));
   box.append(
     userBytes("written by the user since the first frame", queues.write[number], frame, "written-" + number),
     bytesShown("to be sent or acknowledged", sending, sending.length, "sending-" + number),
@@ -64,7 +68,8 @@ const FAULTS = ["", "an address lies outside memory", "there is no operation of 
 function registersShown(registers, number, change) {
   const box = made("div", "registers");
   for (const name of ["Iptr", "A", "W", "B", "O", "C"]) {
-    box.append(made("code", change[NODES[number].name + name] === undefined ? "" : "changed", name.padEnd(5) + hex(registers[name], 8)));
+    const kind = change[NODES[number].name + name] === undefined ? "" : "changed";
+    box.append(made("code", kind, name.padEnd(5) + hex(registers[name], 8)));
   }
   if (registers.Error) box.append(made("code", "halted", "Error is set"));
   return box;
@@ -98,7 +103,8 @@ function codeShown(facts, registers, number) {
 // The instructions around an instruction pointer as lines.
 const codeLines = (facts, registers, number) => listing(codeOf(facts, number), registers).map((it) => {
   const line = sourceAt(number, START + it.place);
-  return (it.here ? "> " : "  ") + hex(START + it.place, 8) + "  " + it.text + (line ? "  " + labelled(line) + "  " + line.text.trim() : "");
+  const beside = line ? "  " + labelled(line) + "  " + line.text.trim() : "";
+  return (it.here ? "> " : "  ") + hex(START + it.place, 8) + "  " + it.text + beside;
 });
 
 // Lines with a name above them, or none.
@@ -110,11 +116,13 @@ function linesShown(name, lines, kind) {
 
 // The first four processes of the queue.
 function waitingShown(facts, number) {
-  const waiting = [0, 1, 2, 3].map((place) => facts[NODES[number].name + "waiting " + place]).filter((it) => it).map((it) => {
+  const named = [0, 1, 2, 3].map((place) => facts[NODES[number].name + "waiting " + place]);
+  const waiting = named.filter((it) => it).map((it) => {
     const [workspace, instruction] = it.split(" "), line = occamText(number, parseInt(instruction, 16));
     return "W " + workspace + " at " + instruction + (line ? "  " + line : "");
   });
-  return linesShown("processes that wait for the processor" + (waiting.length > 3 ? ", the first four" : ""), waiting, "waiting");
+  return linesShown("processes that wait for the processor" + (waiting.length > 3 ? ", the first four" : ""), waiting,
+    "waiting");
 }
 
 const workspaceShown = (words) => linesShown("words from W on", words, "workspace");
@@ -122,7 +130,8 @@ const workspaceShown = (words) => linesShown("words from W on", words, "workspac
 // The links at which something is under way.
 function linksShown(facts, number) {
   const links = [0, 1, 2, 3].map((link) => [link, linkText(facts, number, link)]).filter((it) => it[1]);
-  return linesShown("links at which something is under way", links.map(([link, text]) => "link " + link + " " + text), "links");
+  return linesShown("links at which something is under way", links.map(([link, text]) => "link " + link + " " + text),
+    "links");
 }
 
 // What a node does, its memory, and where its links are.
@@ -148,13 +157,16 @@ function nodeShown(state, number, change) {
   const { facts } = state, box = headShown(facts[NODES[number].look], number, change);
   const registers = registersOf(facts, number), before = state.before[number], outside = state.outside[number];
   if (registers) {
-    box.append(registersShown(registers, number, change), ...occamShown(registers, number), codeShown(facts, registers, number),
+    box.append(registersShown(registers, number, change), ...occamShown(registers, number),
+      codeShown(facts, registers, number),
       waitingShown(facts, number), workspaceShown(workspaceOf(facts, number)));
   }
   if (before) {
     box.append(made("div", "faint", "before it halted"), registersShown(before.registers, number, {}),
-      ...occamShown(before.registers, number), codeShown(facts, before.registers, number), workspaceShown(before.workspace));
-    if (outside) box.append(linesShown("where it was last outside of zeros", codeLines(facts, outside, number), "outside"));
+      ...occamShown(before.registers, number), codeShown(facts, before.registers, number),
+        workspaceShown(before.workspace));
+    if (outside) box.append(linesShown("where it was last outside of zeros", codeLines(facts, outside, number),
+      "outside"));
   }
   box.append(linksShown(facts, number));
   return box;
@@ -170,7 +182,8 @@ function crossing(svg, word, x, y) {
 
 // The sizes of the crossbar: the more ports there are, the closer together they are drawn.
 const shownPorts = [...usedPorts].sort((a, b) => a - b);
-const across = shownPorts.length > 16 ? { side: 12, left: 112, kind: "small", low: 2.5 } : { side: 20, left: 136, kind: "", low: 6 };
+const NARROW = { side: 12, left: 112, kind: "small", low: 2.5 }, BROAD = { side: 20, left: 136, kind: "", low: 6 };
+const across = shownPorts.length > 16 ? NARROW : BROAD;
 const TALL = across.side < 20 ? 36 : 24;
 
 // The names of a port beside its row and above its column; the numbers above narrow columns take turns in two rows.
@@ -189,8 +202,10 @@ function switchShown(facts, number) {
   const to = packet ? drivenBy(packet) : [];
   shownPorts.forEach((port, place) => {
     const at = place * side;
-    if (port === from) svg.append(drawn("rect", { x: left + at, y: TALL, width: side, height: size, fill: "var(--mark)" }));
-    if (to.includes(port)) svg.append(drawn("rect", { x: left, y: TALL + at, width: size, height: side, fill: "var(--mark)" }));
+    if (port === from) svg.append(drawn("rect", { x: left + at, y: TALL, width: side, height: size,
+      fill: "var(--mark)" }));
+    if (to.includes(port)) svg.append(drawn("rect", { x: left, y: TALL + at, width: size, height: side,
+      fill: "var(--mark)" }));
     portNamed(svg, port, place);
   });
   for (let line = 0; line <= shownPorts.length; line += 1) {
@@ -198,12 +213,15 @@ function switchShown(facts, number) {
     svg.append(drawn("path", { d, stroke: "var(--line)", fill: "none" }));
   }
   shownPorts.forEach((output, row) => {
-    const digits = wordAt(facts, output), word = wordOf(digits), y = TALL + row * side, column = shownPorts.indexOf(word.input);
+    const digits = wordAt(facts, output), word = wordOf(digits);
+    const y = TALL + row * side, column = shownPorts.indexOf(word.input);
     svg.append(drawn("text", { x: left + size + 6, y: y + side - low, class: "faint " + kind }, digits));
     if (word.connected && column >= 0) crossing(svg, word, left + column * side + side / 2, y + side / 2);
   });
   return svg;
 }
 
-const wordsText = (facts) => plan.ports.map((it, output) => [it.physical, wordAt(facts, output)]).filter((it) => it[1] !== "0")
-  .sort((a, b) => a[0] - b[0]).map((it) => it.join(":")).join(" ") || "-";
+function wordsText(facts) {
+  const words = plan.ports.map((it, output) => [it.physical, wordAt(facts, output)]).filter((it) => it[1] !== "0");
+  return words.sort((a, b) => a[0] - b[0]).map((it) => it.join(":")).join(" ") || "-";
+}

@@ -16,7 +16,7 @@ function bytesOf(digits) {
   return bytes;
 }
 
-// ---- frames: frame 0 is the first, and frame f is what changes[f - 1] makes of the one before it; lineOf[f] is its line
+// ---- frames: frame 0 is the first, frame f is what changes[f - 1] makes of the one before it, and lineOf[f] its line
 
 const changes = [], lineOf = [-1], firstFrame = [];
 lines.forEach((line, number) => {
@@ -79,7 +79,8 @@ function registersOf(facts, number) {
 function workspaceOf(facts, number) {
   const words = [0, 4, 8, 12, 16, 20, 24, 28].map((offset) => [offset, facts[NODES[number].name + "W+" + offset]]);
   const first = facts[NODES[number].name + "W"];
-  return words.filter((it) => typeof it[1] === "number").map(([offset, word]) => hex(first + offset, 8) + "  " + hex(word, 8));
+  const there = words.filter((it) => typeof it[1] === "number");
+  return there.map(([offset, word]) => hex(first + offset, 8) + "  " + hex(word, 8));
 }
 
 // The byte of a node's memory that has `place` bytes before it, if it is known.
@@ -90,8 +91,8 @@ function byteAt(facts, number, place) {
   return block !== undefined && digit < block.length ? parseInt(block.slice(digit, digit + 2), 16) : undefined;
 }
 
-// Notes the registers before a node came to zeros in memory. Each zero is j 0. They are forgotten when it leaves the zeros for
-// another byte, and kept when it runs past the end of memory, where no byte is known.
+// Notes the registers before a node came to zeros in memory. Each zero is j 0. They are forgotten when it leaves the
+// zeros for another byte, and kept when it runs past the end of memory, where no byte is known.
 function noteZeros(state, number, old) {
   const byte = byteAt(state.facts, number, state.facts[NODES[number].name + "Iptr"] - START);
   if (byte) state.outside[number] = undefined;
@@ -138,12 +139,12 @@ const asked = lines.map((line) => {
   return { verb, number: Number(number), byte: byte === undefined ? number : byte };
 });
 
-const deviceAt = (port) => {
-  const it = plan.ports[port];
-  if (it && it.host !== undefined) return { lane: it.host, name: "host " + it.host, host: it.host };
-  if (it && it.node !== undefined) return { lane: plan.hosts.length + it.node, name: "node " + it.node + " link " + it.link };
+function deviceAt(port) {
+  const { host, node, link } = plan.ports[port] || {};
+  if (host !== undefined) return { lane: host, name: "host " + host, host };
+  if (node !== undefined) return { lane: plan.hosts.length + node, name: "node " + node + " link " + link };
   return undefined;
-};
+}
 const isFault = (line) => line.answer.startsWith("fault");
 const drivenBy = (packet) => plan.ports.map((_, port) => port).filter((port) => (packet.drives >>> port) & 1);
 
@@ -168,12 +169,14 @@ function isByteOfHost(number) {
 
 const marks = { fault: [], loss: [], byte: [] };
 const dropped = new Set();
-const queues = { write: plan.hosts.map(() => ({ frames: [], bytes: [] })), read: plan.hosts.map(() => ({ frames: [], bytes: [] })) };
+const noBytes = () => plan.hosts.map(() => ({ frames: [], bytes: [] }));
+const queues = { write: noBytes(), read: noBytes() };
 const usedPorts = new Set(plan.ports.map((_, port) => port).filter((port) => deviceAt(port)));
 
 const wordOf = (digits) => {
   const low = parseInt(digits.slice(-2), 16);
-  return { connected: (low & 128) !== 0, ready: (low & 64) !== 0, input: plan.ports.findIndex((it) => it.physical === (low & 31)) };
+  const input = plan.ports.findIndex((it) => it.physical === (low & 31));
+  return { connected: (low & 128) !== 0, ready: (low & 64) !== 0, input };
 };
 const wordAt = (facts, output) => facts["output " + output + " word"];
 

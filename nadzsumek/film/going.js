@@ -6,11 +6,13 @@ const nameOf = (port) => "port " + port + (deviceAt(port) ? ", " + deviceAt(port
 // ---- what happened
 
 let now = 0;
+const BUTTONS = document.querySelectorAll("button[data-key]");
 
 function packetText(number) {
   const { packet } = lines[number], outputs = drivenBy(packet).map(nameOf).join(" and ") || "no output";
   const what = packet.byte === undefined ? "an acknowledge" : "the byte " + hex(packet.byte, 2);
-  return " \u2014 " + what + " at " + nameOf(asked[number].number) + ", which drives " + outputs + (dropped.has(number) ? "; it was dropped there" : "");
+  const loss = dropped.has(number) ? "; it was dropped there" : "";
+  return " \u2014 " + what + " at " + nameOf(asked[number].number) + ", which drives " + outputs + loss;
 }
 
 // Which of a line's Steps a frame did.
@@ -25,7 +27,8 @@ function eventText(frame) {
   if (frame === 0) return recordedAt(0) === 0 ? "The domain as it was opened." : "The domain where the film begins.";
   const number = lineOf[frame], line = lines[number];
   const who = line.user === undefined ? "the farm" : plan.users[line.user];
-  const text = "line " + line.line + ", " + who + ": " + (line.times ? stepsText(number, frame) : line.asks + " = " + line.answer);
+  const done = line.times ? stepsText(number, frame) : line.asks + " = " + line.answer;
+  const text = "line " + line.line + ", " + who + ": " + done;
   return line.packet ? text + packetText(number) : text;
 }
 
@@ -46,7 +49,7 @@ function show() {
   $("nodes").replaceChildren(...plan.nodes.map((_, node) => nodeShown(state, node, change)));
   $("hosts").replaceChildren(...plan.hosts.map((_, host) => hostShown(state.facts, host, now, change)));
   $("lanes").replaceChildren(timeShown(now));
-  document.querySelectorAll("button[data-key]").forEach((it) => { it.disabled = TARGETS[it.dataset.key]() === undefined; });
+  BUTTONS.forEach((it) => { it.disabled = TARGETS[it.dataset.key]() === undefined; });
 }
 
 // ---- going to frames
@@ -76,9 +79,11 @@ const lineBehind = () => {
   return now > 0 && now < lastFrame(lineOf[now]) ? lastFrame(lineOf[now]) : lastFrame(lineOf[now] + 1);
 };
 // where each key leads; nowhere if there is nothing more of its kind
-const TARGETS = { ArrowLeft: () => before(1), ArrowRight: () => behind(1), PageUp: () => before(100), PageDown: () => behind(100),
+const TARGETS = { ArrowLeft: () => before(1), ArrowRight: () => behind(1), PageUp: () => before(100), PageDown: () =>
+  behind(100),
   Home: () => before(last), End: () => behind(last), "Shift+ArrowLeft": lineBefore, "Shift+ArrowRight": lineBehind,
-  f: () => placeOf("fault", true), F: () => placeOf("fault", false), l: () => placeOf("loss", true), L: () => placeOf("loss", false),
+  f: () => placeOf("fault", true), F: () => placeOf("fault", false), l: () => placeOf("loss", true), L: () =>
+    placeOf("loss", false),
   b: () => placeOf("byte", true), B: () => placeOf("byte", false) };
 
 function follow(key) {
@@ -92,7 +97,7 @@ document.addEventListener("keydown", (key) => {
   key.preventDefault();
   follow(name);
 });
-document.querySelectorAll("button[data-key]").forEach((it) => it.addEventListener("click", () => follow(it.dataset.key)));
+BUTTONS.forEach((it) => it.addEventListener("click", () => follow(it.dataset.key)));
 $("slider").max = last;
 $("slider").addEventListener("input", () => go(Number($("slider").value)));
 $("number").addEventListener("change", () => {
@@ -117,7 +122,8 @@ function readFragment() {
 }
 
 function spanText() {
-  const to = recordedAt(last), goesOn = film.goes_on ? ". The record goes on: --from and --count show other events" : ", the end of the record";
+  const to = recordedAt(last), more = ". The record goes on: --from and --count show other events";
+  const goesOn = film.goes_on ? more : ", the end of the record";
   const missing = sources.find((it) => it.node >= plan.nodes.length);
   const wrong = missing ? `. There is no node ${missing.node} for its program` : "";
   const cut = film.is_cut ? ". Its last line is cut, and was left out" : "";

@@ -1,5 +1,5 @@
-"""Makes the page of `lab film`. The program prints a film as JSON, and here it becomes one file for a browser, which asks for no other:
-the page of this folder with its style, its scripts and the film in their places."""
+"""Makes the page of `lab film`. The program prints a film as JSON, and here it becomes one file for a browser, which asks
+for no other: the page of this folder with its style, its scripts and the film in their places."""
 
 from __future__ import annotations
 
@@ -33,7 +33,7 @@ def put_inside(link: re.Match[bytes]) -> bytes:
 
 
 def page_of(film: bytes) -> bytes:
-    """The page of a film. In JSON `<` is in texts alone, where it may be written so that it ends no element of the page."""
+    """The page of a film. In JSON `<` is in texts alone, and is written there so that it ends no element of the page."""
     before, behind = OUTSIDE.sub(put_inside, contents("page.html")).split(PLACE)
     return before + PLACE + film.replace(b"<", b"\\u003c") + behind
 
@@ -57,7 +57,7 @@ def print_whole(text: bytes) -> None:
 
 
 def run_beside(start: Callable[[], NoReturn]) -> NoReturn:
-    """Has a child become the program, and prints the page of the film that it prints. What else it prints is printed as it is."""
+    """Has a child become the program, and prints the page of the film that it prints, or what else it prints."""
     films, told = os.pipe()
     # A signal that comes between these lines waits until it can be passed on.
     signal.pthread_sigmask(signal.SIG_BLOCK, SIGNALS)
