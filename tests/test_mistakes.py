@@ -88,7 +88,7 @@ def plans() -> Iterator[tuple[str, str]]:
         if heading.startswith("base "):
             base = text
         elif not heading.startswith("#"):
-            yield heading.partition(" - ")[0] if "isn't TOML" in heading else heading.split(" - a field")[0], text
+            yield heading.partition(" - ")[0], text
 
 
 @pytest.mark.parametrize(("told", "text"), plans())

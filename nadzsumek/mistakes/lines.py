@@ -3,11 +3,11 @@
 from __future__ import annotations
 
 import re
-from collections.abc import Iterator
+from collections.abc import Callable, Iterator
 from typing import NamedTuple
 
 from .nearness import in_other_letters, nearest
-from .verbs import ADDRESS, HEX, HOST, NODE, OF_SCRIPTS, SHORTHAND, USERS, WORD, Kind, Verb, is_of
+from .verbs import ADDRESS, HEX, HOST, NODE, OF_SCRIPTS, SHORTHAND, USERS, WORD, Kind, is_of
 from .words import BLANK, CAPITALS, REMARK, help_of_characters, help_of_digits, shown
 
 # How many users are named at most, and how many wrong lines have a sentence of their own.
@@ -24,10 +24,10 @@ REFUSALS = {
 
 
 class WrongLine(NamedTuple):
-    """The word by which `farm` refuses a line, and what is said of it after the number of the line."""
+    """The word by which `farm` refuses a line, and what makes the sentence about it, which comes after the number of the line."""
 
     kind: str
-    told: str
+    told: Callable[[], str]
 
 
 def divided(text: bytes) -> tuple[bytes, bytes | None]:
@@ -63,12 +63,11 @@ def wrong_line(names: list[str], line: bytes) -> WrongLine | None:
     user, *words = line.split(b" ")
     name = text_of(user)
     if name not in names:
-        return WrongLine("user", f": {shown(user)} is no user of the plan: {listed(names)}{help_of_user(user, names)}")
+        said = f": {shown(user)} is no user of the plan: {listed(names)}"
+        return WrongLine("user", lambda: said + help_of_user(user, names))
     if not words or text_of(words[0]) not in OF_SCRIPTS:
-        return WrongLine("verb", f", {name}: {told_of_verb(words)}")
-    verb, arguments = text_of(words[0]), words[1:]
-    told = told_of_arguments(name, verb, USERS[verb], arguments)
-    return WrongLine(told.kind, f", {name} {verb}: {told.told}") if told else None
+        return WrongLine("verb", lambda: f", {name}: {told_of_verb(words)}")
+    return wrong_arguments(name, text_of(words[0]), words[1:])
 
 
 def listed(names: list[str]) -> str:
@@ -111,18 +110,19 @@ def help_of_verb(written: bytes) -> str:
     return in_brackets(f"is it {near}? That helps {IN_LAB}" if near in SHORTHAND else f"is it {near}?")
 
 
-def told_of_arguments(name: str, verb: str, of: Verb, words: list[bytes]) -> WrongLine | None:
+def wrong_arguments(name: str, verb: str, words: list[bytes]) -> WrongLine | None:
     """What is wrong with the words after a verb, if something is."""
-    if len(words) != len(of.kinds):
-        form = " ".join([name, verb, *(kind.letters for kind in of.kinds)])
-        many = "few" if len(words) < len(of.kinds) else "many"
-        return WrongLine("args", f"too {many} words: {form}{help_of_words(words)}")
-    wrong = [(kind, word) for kind, word in zip(of.kinds, words) if not is_of(kind, text_of(word))]
+    kinds, begin = USERS[verb].kinds, f", {name} {verb}: "
+    if len(words) != len(kinds):
+        form = " ".join([name, verb, *(kind.letters for kind in kinds)])
+        many = "few" if len(words) < len(kinds) else "many"
+        return WrongLine("args", lambda: f"{begin}too {many} words: {form}{help_of_words(words)}")
+    wrong = [(kind, word) for kind, word in zip(kinds, words) if not is_of(kind, text_of(word))]
     if not wrong:
         return None
     kind, word = wrong[0]
     told = "args" if any(kind in (HOST, NODE) for kind, _ in wrong) else "hex"
-    return WrongLine(told, f"{shown(word)}{REFUSALS[kind]}{help_of_argument(kind, word)}")
+    return WrongLine(told, lambda: f"{begin}{shown(word)}{REFUSALS[kind]}{help_of_argument(kind, word)}")
 
 
 def help_of_words(words: list[bytes]) -> str:
@@ -163,7 +163,7 @@ def wrong_lines(names: list[str], script: bytes) -> Iterator[tuple[int, WrongLin
 
 def told_lines(names: list[str], script: bytes) -> list[str]:
     """What is said of the wrong lines of a script: of the first hundred, and then how many more there are."""
-    told = [f"line {number}{wrong.told}" for number, wrong in wrong_lines(names, script)]
-    more = len(told) - MOST_TOLD
+    wrong = list(wrong_lines(names, script))
+    more = len(wrong) - MOST_TOLD
     rest = [f"and {more} more line{'s are' if more > 1 else ' is'} wrong"] if more > 0 else []
-    return told[:MOST_TOLD] + rest
+    return [f"line {number}{it.told()}" for number, it in wrong[:MOST_TOLD]] + rest

@@ -72,7 +72,7 @@ def of_script(found: re.Match[str], source: bytes) -> str | None:
     else:
         names, lines = [text_of(source.split(b" ")[0])], [b""] * (number - 1) + [source]
     wrong = wrong_line(names, lines[number - 1]) if number <= len(lines) else None
-    return f"line {number}{wrong.told}" if wrong and wrong.kind == found[2] else None
+    return f"line {number}{wrong.told()}" if wrong and wrong.kind == found[2] else None
 
 
 def of_word(found: re.Match[str], _source: bytes) -> str | None:

@@ -34,20 +34,19 @@ use lab_command::{
 use std::process::ExitCode;
 
 fn main(rt: HostRuntime) -> ExitCode {
-    end_with(
-        &rt,
-        match report(&rt) {
-            Ok(report) => Ok(report),
-            Err(failure) => Err(with_help(&rt, failure)),
-        },
-    )
+    end_with(&rt, report(&rt))
 }
 
 fn report(rt: &HostRuntime) -> Result<Report, LabFailure> {
     let words = command_words(rt)?;
     match read_command_line(rt.alloc(), words.as_slice())? {
         CommandLine::Help(text) => Report::of(Ok(text)),
-        CommandLine::Request(request) => answer(rt, &request),
+        CommandLine::Request(request) => match answer(rt, &request) {
+            Ok(report) => Ok(report),
+            // the front end itself says what is wrong with a text of occam
+            Err(failure) if matches!(request, LabRequest::Occam(_)) => Err(failure),
+            Err(failure) => Err(with_help(rt, failure)),
+        },
     }
 }
 
