@@ -370,9 +370,9 @@ class Values(ABC):
             case tree.Literal(data_type, value, place):
                 return Typed(place, data_type, Number(value))
             case tree.Dyadic("AND" | "OR" as operator, place, left, right):
-                return self.truths(operator, place, self.expression(left), right)
+                return self.truths(operator, place, left, right)
             case tree.Dyadic(operator, place, left, right):
-                return self.dyadic(operator, place, self.expression(left), self.expression(right))
+                return self.dyadic(operator, place, *self.operands(left, right))
             case tree.Element() | tree.Slice():
                 return self.element_value(expression.place, self.element(expression, (18, "a variable or a constant")))
             case tree.Monadic(operator, place, operand):
@@ -400,10 +400,21 @@ class Values(ABC):
         finally:
             self.steps = before
 
-    def truths(self, operator: str, place: Place, left: Typed, expression: tree.Expression) -> Typed:
+    def operands(self, *expressions: tree.Expression) -> list[Typed]:
+        """The values of operands. What is wrong in each of them is noted."""
+        found = [self.attempt(self.expression, it) for it in expressions]
+        operands = [it for it in found if it is not None]
+        if len(operands) < len(found):
+            raise Refused
+        return operands
+
+    def truths(self, operator: str, place: Place, one: tree.Expression, other: tree.Expression) -> Typed:
         """AND or OR, whose right side is evaluated only if the left one doesn't decide."""
+        left = self.attempt(self.expression, one)
         with self.hoisting() as steps:
-            right = self.expression(expression)
+            (right,) = self.operands(other)
+        if left is None:
+            raise Refused
         if not steps:
             return self.dyadic(operator, place, left, right)
         self.are_operands(operator, place, left, right)
@@ -474,8 +485,10 @@ class Values(ABC):
     def are_operands(self, operator: str, place: Place, left: Typed, right: Typed) -> None:
         """Refuses operands that an operator doesn't take."""
         if operator in ("AND", "OR"):
-            self.is_truth(left)
-            self.is_truth(right)
+            for it in (left, right):
+                self.attempt(self.is_truth, it)
+            if left.type is not BOOL or right.type is not BOOL:
+                raise Refused
         elif operator in ("=", "<>", "<", ">", "<=", ">="):
             if left.type is right.type is BOOL and operator not in ("=", "<>"):
                 raise self.wrong_operator(operator, place, BOOL)

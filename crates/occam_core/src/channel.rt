@@ -1,9 +1,10 @@
 //! Channels of the core.
 
 use crate::expression::{CoreArray, Expression};
+use serde::Deserialize;
 
 /// What one message of a channel is.
-#[derive(Clone, Copy)]
+#[derive(Clone, Copy, Deserialize)]
 pub enum MessageKind {
     /// A BYTE: one byte.
     Byte,

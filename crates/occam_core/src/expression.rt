@@ -1,7 +1,9 @@
 //! Expressions of the core.
 
+use serde::Deserialize;
+
 /// An operation on one value.
-#[derive(Clone, Copy)]
+#[derive(Clone, Copy, Deserialize)]
 pub enum OneOperation {
     /// 0 less the value, which is an error for the least INT.
     Negate,
@@ -14,7 +16,7 @@ pub enum OneOperation {
 }
 
 /// An operation on two values.
-#[derive(Clone, Copy)]
+#[derive(Clone, Copy, Deserialize)]
 pub enum TwoOperation {
     /// The sum, which is an error if no INT has it.
     Add,
@@ -49,7 +51,7 @@ pub enum TwoOperation {
 }
 
 /// How the elements of an array are kept.
-#[derive(Clone, Copy)]
+#[derive(Clone, Copy, Deserialize)]
 pub enum ElementKind {
     /// A BYTE: four in a word, the first in the least significant byte.
     Byte,

@@ -46,7 +46,7 @@ fn array_of(row: ArrayRow) -> CoreArray {
     CoreArray {
         first,
         length,
-        kind: kind.element(),
+        kind,
     }
 }
 
@@ -135,14 +135,14 @@ impl TreeBuilder {
                 Expression::Element(array_of(array), self.take_expression(i, depth)?)
             }
             ExpressionRow::One(operation, a) => {
-                Expression::One(operation.operation(), self.take_expression(a, depth)?)
+                Expression::One(operation, self.take_expression(a, depth)?)
             }
             ExpressionRow::Below(bound, a) => {
                 Expression::Below(bound, self.take_expression(a, depth)?)
             }
             ExpressionRow::Two(operation, a, b) => {
                 let (a, b) = self.take_expressions(a, b, depth)?;
-                Expression::Two(operation.operation(), a, b)
+                Expression::Two(operation, a, b)
             }
             ExpressionRow::And(a, b) => {
                 let (a, b) = self.take_expressions(a, b, depth)?;
@@ -235,7 +235,7 @@ impl TreeBuilder {
         match row {
             ProcessRow::Input(channel, kind, v) => {
                 let channel = self.channel_of(channel, depth)?;
-                Some(CoreProcess::Input(channel, kind.message(), v))
+                Some(CoreProcess::Input(channel, kind, v))
             }
             ProcessRow::InputElement(channel, array, i) => {
                 let channel = self.channel_of(channel, depth)?;
@@ -249,7 +249,7 @@ impl TreeBuilder {
             ProcessRow::Output(channel, kind, e) => {
                 let channel = self.channel_of(channel, depth)?;
                 let e = self.take_value(e, depth)?;
-                Some(CoreProcess::Output(channel, kind.message(), e))
+                Some(CoreProcess::Output(channel, kind, e))
             }
             ProcessRow::OutputArray(channel, array) => {
                 let channel = self.channel_of(channel, depth)?;

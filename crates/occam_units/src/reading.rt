@@ -5,12 +5,12 @@ ghost use Rattle.occam_units.specs.Units.{IsChecked};
 
 use crate::building::TreeBuilder;
 use crate::fault::{OccamFault, UnitFault};
-use crate::rows::{FoldRow, InstanceRow, LinkRow, TypeRow, UnitRows, VariableRow};
-use crate::unit::{CoreUnit, UnitInstance, UnitLink, UnitProcedure, UnitVariable, VariableType};
+use crate::rows::{FoldRow, UnitRows};
+use crate::unit::{CoreUnit, UnitInstance, UnitLink, UnitVariable};
 use crate::uses::UseMistake;
 use occam_core::{CoreProcess, has_process, result_of_one, result_of_two};
 use occam_uses::find_clash;
-use std::alloc::{AllocError, Global};
+use std::alloc::Global;
 
 /// How many bytes a unit has at most.
 pub const MOST_UNIT_BYTES: usize = 0x400_0000;
@@ -20,9 +20,6 @@ const VERSION: u32 = 1;
 
 // How many words the variables of a program have at most, those of tables and of loops among them: as many as the largest memory.
 const MOST_WORDS: u32 = 16_384;
-
-// How many channels the links of a node have.
-const LINK_CHANNELS: u8 = 8;
 
 /// Reads a unit. Each operation on constants that the front end did is done again and compared. All words and links that the
 /// process speaks of are there, and processes of a PAR use together only what they may.
@@ -60,17 +57,17 @@ fn unit_of(alloc: Global, rows: UnitRows) -> Result<CoreUnit, OccamFault>
         return Err(UnitFault::Fold(index).into());
     }
     let process = process_of(alloc, &rows)?;
-    checked_unit(alloc, named_unit(alloc, rows, process)?)
+    checked_unit(alloc, named_unit(rows, process)?)
 }
 
 // Whether an operation on constants gives what is said.
 fn is_right(fold: FoldRow) -> bool {
     match fold {
         FoldRow::One(operation, value, result) => {
-            result_of_one(operation.operation(), value) == Some(result)
+            result_of_one(operation, value) == Some(result)
         }
         FoldRow::Two(operation, left, right, result) => {
-            result_of_two(operation.operation(), left, right) == Some(result)
+            result_of_two(operation, left, right) == Some(result)
         }
     }
 }
@@ -88,11 +85,10 @@ fn process_of(alloc: Global, rows: &UnitRows) -> Result<Box<CoreProcess>, OccamF
 }
 
 // A unit with this process, whose names are those of the rows.
-fn named_unit(
-    alloc: Global,
-    rows: UnitRows,
-    process: Box<CoreProcess>,
-) -> Result<CoreUnit, OccamFault> {
+fn named_unit(rows: UnitRows, process: Box<CoreProcess>) -> Result<CoreUnit, UnitFault> {
+    let words = words_of(rows.variables.as_slice(), rows.tables.len())?;
+    check_links(rows.links.as_slice())?;
+    check_instances(rows.instances.as_slice(), rows.procedures.len())?;
     let UnitRows {
         text,
         warnings,
@@ -100,34 +96,26 @@ fn named_unit(
         tables,
         variables,
         links,
-        procedures: procedure_rows,
+        procedures,
         instances,
         ..
     } = rows;
-    let mut procedures = Vec::new(alloc);
-    for row in procedure_rows {
-        procedures.push(UnitProcedure {
-            name: row.name,
-            line: row.line,
-        })?;
-    }
-    let words = words_of(variables.as_slice(), tables.len())?;
     Ok(CoreUnit {
         text,
         warnings,
         core,
         tables,
-        variables: variables_of(alloc, variables)?,
-        links: links_of(alloc, links)?,
-        instances: instances_of(alloc, instances.as_slice(), procedures.len())?,
+        variables,
+        links,
         procedures,
+        instances,
         words,
         process,
     })
 }
 
 // How many words variables have together, each after the one before it. Tables have the first of them.
-fn words_of(rows: &[VariableRow], table_words: usize) -> Result<u32, UnitFault> {
+fn words_of(rows: &[UnitVariable], table_words: usize) -> Result<u32, UnitFault> {
     let mut words: u32 = 0;
     for (index, row) in rows.iter().enumerate() {
         let next = words.saturating_add(row.words);
@@ -142,67 +130,25 @@ fn words_of(rows: &[VariableRow], table_words: usize) -> Result<u32, UnitFault> 
     Ok(words)
 }
 
-fn variables_of(alloc: Global, rows: Vec<VariableRow>) -> Result<Vec<UnitVariable>, AllocError> {
-    let mut variables = Vec::new(alloc);
-    for row in rows {
-        variables.push(UnitVariable {
-            name: row.name,
-            variable_type: type_of(row.variable_type),
-            line: row.line,
-            first: row.first,
-            words: row.words,
-            length: row.length,
-        })?;
-    }
-    Ok(variables)
-}
-
-fn type_of(row: TypeRow) -> VariableType {
-    match row {
-        TypeRow::Int => VariableType::Int,
-        TypeRow::Byte => VariableType::Byte,
-        TypeRow::Bool => VariableType::Bool,
-        TypeRow::Chan => VariableType::Channel,
-    }
-}
-
-fn links_of(alloc: Global, rows: Vec<LinkRow>) -> Result<Vec<UnitLink>, OccamFault> {
-    let mut links = Vec::new(alloc);
-    for row in rows {
-        if row.number >= LINK_CHANNELS || has_number(links.as_slice(), row.number) {
-            return Err(UnitFault::Link(links.len()).into());
+// Each link is one of a node, and named once.
+fn check_links(links: &[UnitLink]) -> Result<(), UnitFault> {
+    let mut seen: u8 = 0;
+    for (index, link) in links.iter().enumerate() {
+        let bit = 1u8.checked_shl(u32::from(link.number)).unwrap_or(0);
+        if bit == 0 || seen & bit != 0 {
+            return Err(UnitFault::Link(index));
         }
-        links.push(UnitLink {
-            number: row.number,
-            name: row.name,
-            line: row.line,
-        })?;
+        seen |= bit;
     }
-    Ok(links)
+    Ok(())
 }
 
-fn has_number(links: &[UnitLink], number: u8) -> bool {
-    links.iter().any(|link| link.number == number)
-}
-
-fn instances_of(
-    alloc: Global,
-    rows: &[InstanceRow],
-    procedures: usize,
-) -> Result<Vec<UnitInstance>, OccamFault> {
-    let mut instances = Vec::new(alloc);
-    for row in rows {
-        let procedure = row.procedure as usize;
-        if procedure >= procedures {
-            return Err(UnitFault::Instance(instances.len()).into());
-        }
-        instances.push(UnitInstance {
-            line: row.line,
-            column: row.column,
-            procedure,
-        })?;
+// Each instance is of a procedure.
+fn check_instances(instances: &[UnitInstance], procedures: usize) -> Result<(), UnitFault> {
+    match instances.iter().position(|it| it.procedure >= procedures) {
+        Some(index) => Err(UnitFault::Instance(index)),
+        None => Ok(()),
     }
-    Ok(instances)
 }
 
 // The unit, if its process speaks only of what there is, and processes of a PAR use together only what they may.

@@ -1,23 +1,28 @@
 //! What the front end hands over of a text that is a program.
 
 use occam_core::CoreProcess;
+use serde::Deserialize;
 
 /// What a variable has.
-#[derive(Clone, Copy)]
+#[derive(Clone, Copy, Deserialize)]
+#[serde(rename_all = "UPPERCASE")]
 pub enum VariableType {
     Int,
     Byte,
     Bool,
     /// A channel within the node.
+    #[serde(rename = "CHAN")]
     Channel,
 }
 
 /// A variable, or an array of them.
-#[derive(Drop)]
+#[derive(Drop, Deserialize)]
+#[serde(deny_unknown_fields)]
 pub struct UnitVariable {
     /// Its name in the text. What only the core has, as the count of a replicator, has none.
     pub name: Option<String>,
     /// The type of it, or of each element.
+    #[serde(rename = "type")]
     pub variable_type: VariableType,
     /// The line that declares it, or 0 if no line of the text does.
     pub line: u32,
@@ -30,7 +35,8 @@ pub struct UnitVariable {
 }
 
 /// A channel that is placed at a link.
-#[derive(Drop)]
+#[derive(Drop, Deserialize)]
+#[serde(deny_unknown_fields)]
 pub struct UnitLink {
     /// 0 to 3 are the outputs of links 0 to 3, and 4 to 7 their inputs.
     pub number: u8,
@@ -40,7 +46,8 @@ pub struct UnitLink {
 }
 
 /// A procedure.
-#[derive(Drop)]
+#[derive(Drop, Deserialize)]
+#[serde(deny_unknown_fields)]
 pub struct UnitProcedure {
     pub name: String,
     /// The line that declares it, or 0 if it is in no text of the user.
@@ -48,7 +55,8 @@ pub struct UnitProcedure {
 }
 
 /// Where a procedure's body was put in place.
-#[derive(Clone, Copy)]
+#[derive(Clone, Copy, Deserialize)]
+#[serde(deny_unknown_fields)]
 pub struct UnitInstance {
     /// The line and column of the instance in the text, from 1.
     pub line: u32,
