@@ -1,5 +1,4 @@
-//! A farm in a program of one's own: on one thread, beside a neighbour, and in threads. Ann's node sends a byte, and all three
-//! print it. docs/guides/EMBEDDING.md explains the program, and shows parts of it.
+//! A farm in a program of one's own: on one thread, and beside a neighbour. Ann's node sends a byte, and both print it. docs/guides/EMBEDDING.md explains the program, and shows parts of it.
 //!
 //! What it must print follows from the instruction handbook. `PROGRAM` is: `b5` ajw 5, so that the workspace lies above the
 //! code; `24 f2` mint, so that A is 80000000, the address of link 0's output channel; `24 41` ldc 41 hexadecimal, so that A is
@@ -9,17 +8,13 @@
 
 mod alone;
 mod one_thread;
-mod threads;
 
 use crate::alone::answers_of;
 use crate::one_thread::{FarmCall, ask_on_one_thread};
-use crate::threads::ask_in_threads;
 use domain_core::{By, Event, NoMemory, Refusal, Reply};
 use plan_checker::accept_plan;
 use std::alloc::Global;
 use std::io;
-use std::sync::Wait;
-use std::thread::Threads;
 
 /// Ann has ports 0 to 7 and bob ports 8 to 15. Each has a node whose link 0 is at port 0, and a host at port 7, as they
 /// count their ports.
@@ -84,8 +79,8 @@ fn show(rt: &impl Print, name: &str, last: Option<Reply>) -> io::Result<()> {
     }
 }
 
-// Asks the same in three ways, and prints what came.
-fn show_all<R: Threads + Wait + Sync + Print>(rt: &R, alloc: Global) -> io::Result<()> {
+// Asks the same in two ways, and prints what came.
+fn show_all(rt: &impl Print, alloc: Global) -> io::Result<()> {
     let plan = match accept_plan(alloc, PLAN.as_bytes()) {
         Ok(plan) => plan,
         Err(fault) => return println!(rt; "the plan is refused: {fault}"),
@@ -99,17 +94,9 @@ fn show_all<R: Threads + Wait + Sync + Print>(rt: &R, alloc: Global) -> io::Resu
     match answers_of(alloc, &plan, both.as_slice(), ANN) {
         Ok(answers) => {
             let last = answers.last().copied();
-            show(rt, "beside bob", last.and_then(|answer| answer.ok()))?;
+            show(rt, "beside bob", last.and_then(|answer| answer.ok()))
         }
-        Err(refusal) => println!(rt; "beside bob: {refusal}")?,
-    }
-    match ask_in_threads(rt, alloc, plan) {
-        Ok(replies) => {
-            show(rt, "in threads", replies.last().copied())?;
-            let same = replies.as_slice() == asked.replies.as_slice();
-            println!(rt; "answered alike: {same}")
-        }
-        Err(refusal) => println!(rt; "in threads: {refusal}"),
+        Err(refusal) => println!(rt; "beside bob: {refusal}"),
     }
 }
 
