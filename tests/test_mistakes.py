@@ -108,6 +108,15 @@ def test_places_that_are_not_found() -> None:
     assert with_help(b"plan: 7: ports are shared\n", PLAN + b"---\n") == b"plan: 7: ports are shared\n"
 
 
+@pytest.mark.parametrize("begin", ["folder/echo.occ: ", "line 3, ann load: echo.occ: "])
+def test_occam_has_its_own_help(begin: str) -> None:
+    """What is said of a text of occam stays as its front end says it: an operand may have parentheses there."""
+    said = f'{begin}line 1, column 1: fault 11: expected the end of the line, not "("\n'
+    assert with_help(said.encode(), b"") == said.encode()
+    more = said + 'line 2, column 1: fault 2: expected a process, not "mov"\n'
+    assert begin.startswith("line") or with_help(more.encode(), b"") == more.encode()
+
+
 def test_a_script_without_its_mark() -> None:
     """A line of a script in what is read as a plan."""
     told = told_plan(1, PLAN + b"ann look 0\n")

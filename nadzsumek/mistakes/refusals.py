@@ -3,6 +3,7 @@ front end (`nadzsumek/occam/asking.py`), and shows the answer."""
 
 from __future__ import annotations
 
+import functools
 import re
 from collections.abc import Callable
 
@@ -27,6 +28,9 @@ INSTRUCTION = "an operation as add, a function and its operand as ldc 5, or hex 
 PLAN = re.compile(
     r"plan: (\d+): (?!.*(?:in the plan that begins|`lab plan` says)).*?( \(no line after it is just ---.*\))?"
 )
+# The front end itself says what helps with a text of occam. The first line of its mistakes has the name of the file.
+OCCAM_FILE = ".occ: line "
+OCCAM = re.compile(rf"(?!line \d+, ).*{re.escape(OCCAM_FILE)}")
 SCRIPT = re.compile(r"line (\d+): (user|verb|args|hex)")
 WORD = re.compile(
     r'(.*column \d+: (?:"(?P<word>.*)"|(?P<blank>a blank)|the end of the line|the byte ..)'
@@ -38,7 +42,9 @@ ASSEMBLY = re.compile(r'.*fault (?P<fault>\d+): expected .*?, not "(?P<word>(?:[
 def with_help(refusal: bytes, source: bytes) -> bytes:
     """The lines of a refusal with what helps. `source` is the text that is refused, or the one line of it, if the lines don't say
     enough."""
-    lines = refusal.decode(errors="replace").splitlines()
+    lines = refusal.decode(errors="replace").removesuffix("\n").split("\n")
+    if OCCAM.match(lines[0]):
+        return refusal
     return "".join(f"{line_with_help(line, source)}\n" for line in lines).encode()
 
 
@@ -64,14 +70,21 @@ def of_plan(found: re.Match[str], source: bytes) -> str | None:
     return told and f"plan: {found[1]}: {told}{tail}"
 
 
+@functools.lru_cache(maxsize=1)
+def script_of(text: bytes) -> tuple[list[str], list[bytes]]:
+    """The users of a plan, and the lines of the script after it."""
+    return users_of(text), lines_of(divided(text)[1] or b"")
+
+
 def of_script(found: re.Match[str], source: bytes) -> str | None:
     """What is wrong with a line of a user: one of a script after a plan, or the one that `source` is."""
     number = int(found[1])
     if b"\n" in source:
-        names, lines = users_of(source), lines_of(divided(source)[1] or b"")
+        names, lines = script_of(source)
+        line = lines[number - 1] if number <= len(lines) else b""
     else:
-        names, lines = [text_of(source.split(b" ")[0])], [b""] * (number - 1) + [source]
-    wrong = wrong_line(names, lines[number - 1]) if number <= len(lines) else None
+        names, line = [text_of(source.split(b" ")[0])], source
+    wrong = wrong_line(names, line)
     return f"line {number}{wrong.told()}" if wrong and wrong.kind == found[2] else None
 
 
@@ -147,6 +160,8 @@ def help_of_instruction(word: str) -> str | None:
 
 def of_assembly(found: re.Match[str], _source: bytes) -> str | None:
     """A line of the assembler, with what helps for its word."""
+    if OCCAM_FILE in found[0]:
+        return None
     told = help_of_fault(int(found["fault"]), meant(found["word"]), bool(found["told"]))
     return f"{found[0]}. {told}" if told else None
 

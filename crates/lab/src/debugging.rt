@@ -5,6 +5,7 @@ use crate::front_end::{lines_with_help, readable_program};
 use crate::programs::{WrongProgram, program_of_text};
 use lab_command::{ArgumentFault, Debugging, LabFailure, TerminalMeter, read_file};
 use lab_debug::{DebugFault, Debugger, FoundProgram, ProgramFiles, ProgramOf, debug};
+use lab_script::is_occam_file;
 use script_text::decimal_number;
 use std::alloc::{AllocError, Global};
 use std::io::{BufReader, IsTerminal};
@@ -20,6 +21,10 @@ impl ProgramFiles for Files<'_> {
         };
         match program_of_text(self.0.alloc(), file, text) {
             Ok(program) => Ok(FoundProgram::Program(program)),
+            // the front end itself says what is wrong with a text of occam
+            Err(WrongProgram::Shown(mistakes)) if is_occam_file(file) => {
+                Ok(FoundProgram::Wrong(mistakes))
+            }
             Err(WrongProgram::Shown(mistakes)) => {
                 Ok(FoundProgram::Wrong(lines_with_help(self.0, mistakes, &[])?))
             }
