@@ -70,7 +70,7 @@ def scripts():
 def library(name, folder):
     """The path of the library that NAME.c of this folder makes, for LD_PRELOAD."""
     path = f"{folder}/{name}.so"
-    words = ["cc", "-O1", "-fno-omit-frame-pointer", "-shared", "-fPIC", "-o", path, f"{TOP}/tests/{name}.c"]
+    words = ["cc", "-O1", "-fno-omit-frame-pointer", "-shared", "-fPIC", "-o", path, f"{TOP}/tests/support/{name}.c"]
     subprocess.run(words, check=True)
     return path
 

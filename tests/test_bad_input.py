@@ -1,32 +1,23 @@
-#!/usr/bin/env -S python3 -B
-"""Gives the built program texts that nobody should send: the examples with bytes and lines changed, plans and lines that are
-deep, long or no text, random scripts over good plans, and wild programs beside a neighbour.
-
-usage: tests/bad_input [COUNT] [SEED]    COUNT texts (2,000 unless given) from SEED (1 unless given); text K of a seed is
-                                         the same whatever COUNT is
+"""Texts that nobody should send: the examples with bytes and lines changed, plans and lines that are deep, long or no text, random
+scripts over good plans, and wild programs beside a neighbour.
 
 Each text is run by a random number of workers with a random quantum. The program must end within 20 seconds by a status
 that docs/PROGRAM.md lists, without running out of memory, with just its form on standard error, and with nothing on standard output
 for statuses 2 to 5. A text that ends with status 0 is run twice again, by other numbers of workers and other quanta. Answers to
-wild code may depend on time, as may bytes that wait while outputs change: such texts are counted. A user of whom nothing depends
-on time is answered the same, and so is the neighbour, whose answers are also those of a run without the wild lines, and of a plan
-that holds him alone at other ports.
+wild code may depend on time, as may bytes that wait while outputs change. A user of whom nothing depends on time is answered the
+same, and so is the neighbour, whose answers are also those of a run without the wild lines, and of a plan that holds them alone at
+other ports."""
 
-A line for each wrong text tells what is wrong, and the text is kept in out/bad_input. The status is 1 if one was."""
-import collections
-import os
 import random
 import re
-import sys
-import time
-from concurrent.futures import ProcessPoolExecutor
 
-from trials import TOP, built, examples, run
+import pytest
+from support.trials import PLAIN_NAMES, TOP, Ran, example, program, put, run
 
-KEPT = f"{TOP}/out/bad_input"
+KEPT = f"{TOP}/out"
 MOST_SECONDS = 20
-# How many texts a process tries at a time; there are as many processes as cores.
-PIECE = 200
+# In how many parts the texts are tried.
+PARTS = 8
 FORMS = {0: rb"", 3: rb"plan: ([1-9]|1[0-4]|16|17)\n", 4: rb"line [1-9]\d*: (user|verb|args|hex)\n", 6: rb"io\n"}
 NUMBERS = [
     "-1",
@@ -81,7 +72,7 @@ NEIGHBOUR = [
     "look 1",
 ]
 # The code of the examples.
-CODES = set()
+CODES = {it.lower() for name in PLAIN_NAMES for it in re.findall(rb"boot \d+ (\S+)", example(name).text)}
 # Starts of code: registers of the queue, words of channels, moves of 4 GB, workspaces, high priority, loops, codes of no operation.
 WILD = [
     "24f2",
@@ -111,16 +102,16 @@ WILD = [
 ]
 
 
-def asked(program, text, workers, quantum):
+def asked(text: bytes, workers: int, quantum: int) -> Ran:
     """What the program answers to a text, by so many workers with this quantum."""
-    return run([program, "--workers", str(workers), "--quantum", str(quantum)], text, seconds=MOST_SECONDS)
+    return run([program("farm"), "--workers", str(workers), "--quantum", str(quantum)], text, seconds=MOST_SECONDS)
 
 
-def digits(chance, most):
+def digits(chance: random.Random, most: int) -> str:
     return chance.randbytes(chance.randint(1, most)).hex()
 
 
-def changed(chance, texts):
+def changed(chance: random.Random, texts: list[bytes]) -> bytes:
     """An example after some changes."""
     text = chance.choice(texts)
     for _ in range(chance.randint(1, 6)):
@@ -137,9 +128,8 @@ def changed(chance, texts):
             lines[here], lines[there] = lines[there], lines[here]
             text = b"\n".join(lines)
         elif kind == 4:
-            places = list(re.finditer(rb"-?\d+", text)) or [re.search(b"", text)]
-            place = chance.choice(places)
-            text = text[: place.start()] + chance.choice(NUMBERS).encode() + text[place.end() :]
+            here, there = chance.choice([it.span() for it in re.finditer(rb"-?\d+", text)] or [(0, 0)])
+            text = text[:here] + chance.choice(NUMBERS).encode() + text[there:]
         elif kind == 5:
             text = text[:at] + chance.choice(PIECES) + text[at:]
         elif kind == 6:
@@ -156,7 +146,7 @@ def changed(chance, texts):
     return text
 
 
-def deep(chance):
+def deep(chance: random.Random) -> bytes:
     """TOML of many levels, or bytes that are no text."""
     level = chance.choice([1, 40, 79, 80, 81, 200, 5000, 100000])
     opening, closing = chance.choice(
@@ -169,7 +159,7 @@ def deep(chance):
     return chance.choice([bare, bare + b"\n---\nann look 0\n", chance.randbytes(chance.randint(0, 3000))])
 
 
-def script_line(chance, names):
+def script_line(chance: random.Random, names: list[bytes]) -> str:
     """A line of a user, most often a right one, with code and bytes that are wild."""
     name = chance.choice(names).decode()
     place = chance.choice([0, 0, 0, 0, 0, 1, 1, 2, 3, 255])
@@ -200,18 +190,20 @@ def script_line(chance, names):
     return f"{name} {verb}"
 
 
-def domain_text(name, first, last, limit, hosts, nodes):
+def domain_text(
+    name: str, first: int, last: int, limit: int, hosts: list[int], nodes: list[tuple[int, list[int]]]
+) -> str:
     rows = "".join(f"[[domain.node]]\nmemory = {memory}\nlinks = {links}\n" for memory, links in nodes)
     return f'[[domain]]\nname = "{name}"\nrange = [[{first}, {last}]]\nlimit = {limit}\nhost = {hosts}\n{rows}'
 
 
-def wild(chance):
+def wild(chance: random.Random) -> tuple[str, list[str]]:
     """A wild domain and its neighbour: the text, and the neighbour's alone in the same plan and at other ports."""
     count = chance.randint(8, 20)
     ports = chance.sample(range(1, count), count - 1)
     hosts = sorted([7] + [it for it in ports[:3] if it != 7][: chance.randint(0, 3)])
     free = [0] + [it for it in ports if it not in hosts]
-    nodes = []
+    nodes: list[tuple[int, list[int]]] = []
     for _ in range(chance.randint(1, 4)):
         given = [free.pop(0) for _ in range(min(len(free), chance.randint(1, 4)))]
         if given:
@@ -222,16 +214,21 @@ def wild(chance):
     fan = "".join(f"0000{it:02x}" for it in range(count))
     joins = "".join(f"01{chance.randrange(count):02x}{chance.randrange(count):02x}" for _ in range(8))
     routes = ["01000703", fan + "03", "0007070100000303", joins + "03", "0100070107070301000003"]
-    lines = []
+    lines: list[str] = []
     for _ in range(chance.randint(1, 4)):
         code = "".join(chance.choice([chance.choice(WILD), digits(chance, 4)]) for _ in range(chance.randint(1, 12)))
         lines += ["ann config 01000703", f"ann boot {hosts.index(7)} {code}", "ann look 0"]
         lines += [script_line(chance, [b"ann"]) for _ in range(chance.randint(0, 3))]
-        lines += chance.choice(
-            [[], ["ann config " + chance.choice(routes)], ["ann reset 0"], ["ann write 0 02", "ann write 1 04"]]
-        )
+        more: list[list[str]] = [
+            [],
+            ["ann config " + chance.choice(routes)],
+            ["ann reset 0"],
+            ["ann write 0 02", "ann write 1 04"],
+        ]
+        lines += chance.choice(more)
     own = [f"bob {it}" for it in NEIGHBOUR]
-    merged, rest = [], list(own)
+    merged: list[str] = []
+    rest = list(own)
     while lines or rest:
         merged.append((lines if lines and (not rest or chance.random() < 0.5) else rest).pop(0))
     alone = domain_text("bob", 24, 31, 100000, [7], [(4096, [0, -1, -1, -1])])
@@ -239,7 +236,7 @@ def wild(chance):
     return f"{pair}---\n{chr(10).join(merged)}\n", [f"{pair}---\n{bobs}", f"version = 2\n{alone}---\n{bobs}"]
 
 
-def wrong_of(got):
+def wrong_of(got: Ran) -> str | None:
     """What is wrong with an end of the program, or none."""
     status, output, errors = got
     if status not in FORMS or status == 6:
@@ -249,13 +246,14 @@ def wrong_of(got):
     return None
 
 
-def lines_of(output, name):
+def lines_of(output: bytes, name: bytes) -> list[bytes]:
     return [it for it in output.split(b"\n") if it.startswith(name + b" ")]
 
 
-def fans_out(told):
+def fans_out(told: bytes) -> bool:
     """Whether configuration bytes let one input drive two outputs at any time, so that the first acknowledge frees the sender."""
-    drives, stream = {}, list(told)
+    drives: dict[int, int] = {}
+    stream = list(told)
     while stream:
         command = stream.pop(0)
         ports = [stream.pop(0) for _ in range({0: 2, 1: 2, 2: 1, 5: 1, 6: 2}.get(command, 0)) if stream]
@@ -270,10 +268,10 @@ def fans_out(told):
     return False
 
 
-def may_depend(text, got, others, user):
-    """Whether a user's answers may depend on time: he isn't alone in his domain, he boots code that isn't an example's, he fills a
-    host, he changes outputs after bytes were sent, a port of his drives several outputs, a node of his runs on, or he comes to
-    his limit."""
+def may_depend(text: bytes, got: Ran, others: list[Ran], user: bytes) -> bool:
+    """Whether a user's answers may depend on time: they aren't alone in their domain, boot code that isn't an example's, fill a
+    host, change outputs after bytes were sent, have a port that drives several outputs or a node that runs on, or come to
+    their limit."""
     plan, script = re.split(rb"(?m)^---\r?\n", text, maxsplit=1)
     told = b"\n".join(line for it in [got, *others] for line in lines_of(it[1], user))
     if re.search(rb"user\W", plan) or b"journalfull" in told or b" running " in told:
@@ -293,7 +291,7 @@ def may_depend(text, got, others, user):
     return False
 
 
-def text_of(chance, texts):
+def text_of(chance: random.Random, texts: list[bytes]) -> tuple[str, bytes, list[bytes]]:
     """The kind of a text, the text, and of wild programs those with the neighbour alone."""
     kind = chance.choices(["changed", "deep", "random", "wild"], [6, 1, 3, 3])[0]
     if kind == "changed":
@@ -309,61 +307,32 @@ def text_of(chance, texts):
     return kind, text.encode(), [it.encode() for it in alone]
 
 
-def tried(chance, program, texts, counts):
-    """A text, and what is wrong with its answers, or none."""
-    kind, text, alone = text_of(chance, texts)
+def fault_of(chance: random.Random, kind: str, text: bytes, alone: list[bytes]) -> str | None:
+    """What is wrong with the answers to a text, or none."""
     ways = [(chance.randint(1, 8), chance.choice([1, 7, 256, 4096, chance.randint(1, 4096)])) for _ in range(3)]
-    got = asked(program, text, *ways[0])
-    counts[f"{kind}, status {got[0]}"] += 1
+    got = asked(text, *ways[0])
     wrong = wrong_of(got)
-    if wrong or got[0]:
-        return text, wrong and f"{kind}: {wrong}"
-    others = [asked(program, text, *it) for it in ways[1:]]
+    if wrong or got.status:
+        return wrong
+    others = [asked(text, *it) for it in ways[1:]]
     faults = [it for it in map(wrong_of, others) if it]
     if not faults and any(it != got for it in others):
-        users = {it.split(b" ")[0] for other in others for it in other[1].split(b"\n") + got[1].split(b"\n")}
-        unlike = [it for it in users if any(lines_of(other[1], it) != lines_of(got[1], it) for other in others)]
-        faults = [
-            f"{it.decode()} is answered otherwise by others" for it in unlike if not may_depend(text, got, others, it)
-        ]
-        counts[f"{kind}, status 0, some answer depends on time"] += 1
-    for other in others + [asked(program, it, *ways[1]) for it in alone]:
-        if kind == "wild" and lines_of(other[1], b"bob") != lines_of(got[1], b"bob"):
-            faults.append(f"the neighbour is answered otherwise: {other[0]}, {other[2][:80]!r}")
-    return text, faults and f"{kind}: {faults[0]}"
+        users = {it.split(b" ")[0] for other in others for it in other.output.split(b"\n") + got.output.split(b"\n")}
+        unlike = [it for it in users if any(lines_of(other.output, it) != lines_of(got.output, it) for other in others)]
+        faults = [f"{it!r} is answered otherwise by others" for it in unlike if not may_depend(text, got, others, it)]
+    for other in others + [asked(it, *ways[1]) for it in alone]:
+        if kind == "wild" and lines_of(other.output, b"bob") != lines_of(got.output, b"bob"):
+            faults.append(f"the neighbour is answered otherwise: {other.status}, {other.errors[:80]!r}")
+    return faults[0] if faults else None
 
 
-def tried_piece(piece):
-    """What kinds of texts with these numbers there were, and those that were wrong."""
-    seed, numbers, program, texts = piece
-    CODES.update(it.lower() for text in texts for it in re.findall(rb"boot \d+ (\S+)", text))
-    counts, wrongs = collections.Counter(), []
-    for number in numbers:
-        text, wrong = tried(random.Random(f"{seed} {number}"), program, texts, counts)
-        if wrong:
-            wrongs.append((number, text, wrong))
-    return counts, wrongs
-
-
-def main(words):
-    count, seed = [int(it) for it in words] + [2000, 1][len(words) :]
-    program, texts = built("farm"), [text for _, text, _ in examples()]
-    counts, faults, begun = collections.Counter(), 0, time.monotonic()
-    pieces = [(seed, range(first, min(first + PIECE, count)), program, texts) for first in range(0, count, PIECE)]
-    with ProcessPoolExecutor() as pool:
-        for kinds, wrongs in pool.map(tried_piece, pieces):
-            counts.update(kinds)
-            for number, text, wrong in wrongs:
-                faults += 1
-                os.makedirs(KEPT, exist_ok=True)
-                with open(f"{KEPT}/{seed}-{number}", "wb") as file:
-                    file.write(text)
-                print(f"text {number}: {wrong}", flush=True)
-    for name, times in sorted(counts.items()):
-        print(f"{times} {name}")
-    print(f"{count} texts of seed {seed}, {faults} wrong, {count / (time.monotonic() - begun):.0f} texts a second")
-    return 1 if faults else 0
-
-
-if __name__ == "__main__":
-    sys.exit(main(sys.argv[1:]))
+@pytest.mark.long
+@pytest.mark.parametrize("part", range(PARTS))
+def test_bad_input(part: int, count: int | None, seed: int) -> None:
+    """Text K of a seed is the same whatever the count is. A text that is answered wrongly is kept."""
+    texts = [example(it).text for it in PLAIN_NAMES]
+    for number in range(part, count or 2000, PARTS):
+        chance = random.Random(f"{seed} {number}")
+        kind, text, alone = text_of(chance, texts)
+        fault = fault_of(chance, kind, text, alone)
+        assert fault is None, f"{kind}: {fault}: {put(f'{KEPT}/{seed}-{number}', text)}"

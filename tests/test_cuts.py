@@ -1,18 +1,12 @@
-#!/usr/bin/env -S python3 -B
-"""Cuts the stored run of the built program and every example after each byte, and compares the status, standard error and
-standard output with what a model of its own says: Python's TOML reader for the plan, and the tests of script lines in the
-order user, verb, args, hex. Where a cut text is answered, each user has just his lines, in the order of the plan, and those
-that stand whole in it have the whole text's answers.
+"""The stored run of `farm` and every example, cut after each byte. The status, standard error and standard output are held against a
+model: Python's TOML reader for the plan, and the tests of script lines in the order user, verb, args, hex. Where a cut text is
+answered, each user has just their lines, in the order of the plan, and those that stand whole in it have the whole text's answers."""
 
-usage: tests/cuts [--every N] [WORKERS]    each N-th cut alone, each of them unless given; by so many workers, 2 unless given
-
-It prints how many cuts of each text are as expected, and its status is 1 where one isn't."""
 import re
-import sys
 import tomllib
-from concurrent.futures import ThreadPoolExecutor
 
-from trials import built, examples, run
+import pytest
+from support.trials import PLAIN_NAMES, WORKERS, by_workers, example, run
 
 FIELDS = {
     1: {"name", "first", "last", "limit", "host", "node"},
@@ -32,13 +26,13 @@ VERBS = {
 }
 
 
-def fault_of(plan):
+def fault_of(plan: str) -> int | None:
     """The number of a plan's fault, or none. The whole plan is right, so a beginning lacks something or nothing."""
     try:
         document = tomllib.loads(plan)
     except tomllib.TOMLDecodeError:
         return 1
-    domains, fields = document.get("domain", []), FIELDS.get(document.get("version"))
+    domains, fields = document.get("domain", []), FIELDS.get(document.get("version", 0))
     whole = (
         fields
         and domains
@@ -52,17 +46,17 @@ def fault_of(plan):
     return None if whole else 2
 
 
-def users_of(plan):
-    """The names of a whole plan's users, in its order, each with the number of his domain."""
+def users_of(plan: str) -> list[tuple[str, int]]:
+    """The names of a whole plan's users, in its order, each with the number of their domain."""
     domains = tomllib.loads(plan)["domain"]
     return [(user["name"], at) for at, it in enumerate(domains) for user in it.get("user", [it])]
 
 
-def is_passed_over(line):
+def is_passed_over(line: str) -> bool:
     return line == "" or line.startswith("#")
 
 
-def word_of(line, names):
+def word_of(line: str, names: list[str]) -> str | None:
     """What is wrong with a script line of users of these names, or none."""
     name, *rest = line.split(" ")
     if name not in names:
@@ -80,14 +74,14 @@ def word_of(line, names):
     return None
 
 
-def parted(text):
+def parted(text: str) -> tuple[str, list[str]]:
     """The plan and the script's lines, of which the last may be a part of one or empty."""
     lines = text.split("\n")
     place = lines.index("---") if "---" in lines else len(lines)
     return "\n".join(lines[:place]), lines[place + 1 :]
 
 
-def told_of(text):
+def told_of(text: str) -> tuple[int, str]:
     """Status and standard error of a text."""
     plan, lines = parted(text)
     fault = fault_of(plan)
@@ -101,13 +95,14 @@ def told_of(text):
     return 0, ""
 
 
-def is_answered(text, stored, printed):
+def is_answered(text: str, stored: list[str], printed: list[str]) -> bool:
     """Whether a text that is cut, and answered, is answered as the stored lines of the whole text say. What its last line
     answers, which may be cut, is known only by its user and verb; so it is with users of the same domain beside it."""
     plan, lines = parted(text)
     *whole, last = lines or [""]
     cut = [] if is_passed_over(last) else last.split(" ")[:2]
-    wanted, known = [], []
+    wanted: list[list[str]] = []
+    known: list[str | None] = []
     domain_of = dict(users_of(plan))
     for user, domain in domain_of.items():
         mine = [it for it in whole if it.split(" ")[0] == user]
@@ -119,34 +114,13 @@ def is_answered(text, stored, printed):
     return is_right and all(want in (None, line) for want, line in zip(known, printed))
 
 
-def wrong_of(call, text, stored, end):
-    """How a text that is cut there is answered, if that is wrong."""
-    cut = text[:end]
-    status, out, errors = run(call, cut.encode())
-    printed, told = out.decode(errors="replace"), errors.decode(errors="replace")
-    is_right = (status, told) == told_of(cut) and (status == 0 or printed == "")
-    if is_right and (status != 0 or is_answered(cut, stored, printed.splitlines())):
-        return None
-    return f"after {end} bytes, {cut[-20:]!r}: {status}, {told!r}, {printed!r}"
-
-
-def main(words):
-    every, call = 1, [built("farm")]
-    if words[:1] == ["--every"]:
-        every, words = int(words[1]), words[2:]
-    if words:
-        call += ["--workers", words[0]]
-    is_well = True
-    with ThreadPoolExecutor() as pool:
-        for name, text, wanted in examples():
-            text, stored = text.decode("ascii"), wanted.decode("ascii").splitlines()
-            ends = range(0, len(text) + 1, every)
-            wrong = [it for it in pool.map(lambda end: wrong_of(call, text, stored, end), ends) if it]
-            print("".join(f"{name} {it}\n" for it in wrong), end="")
-            print(f"{name}: {len(ends) - len(wrong)} of {len(ends)} cuts as expected", flush=True)
-            is_well = is_well and not wrong
-    return 0 if is_well else 1
-
-
-if __name__ == "__main__":
-    sys.exit(main(sys.argv[1:]))
+@pytest.mark.parametrize("every", [40, pytest.param(1, marks=pytest.mark.long)])
+@pytest.mark.parametrize("count", WORKERS)
+@pytest.mark.parametrize("name", PLAIN_NAMES)
+def test_cuts(name: str, count: int, every: int) -> None:
+    text, output = (it.decode("ascii") for it in example(name))
+    for end in range(0, len(text) + 1, every):
+        cut = text[:end]
+        status, out, errors = run(by_workers(count), cut.encode())
+        assert (end, status, errors.decode()) == (end, *told_of(cut))
+        assert is_answered(cut, output.splitlines(), out.decode().splitlines()) if status == 0 else out == b"", end
