@@ -72,7 +72,7 @@ def of_record(path: str) -> str:
     return out
 
 
-def has_come_to_differ(ask: Callable[[str, str], str | None]) -> None:
+def has_come_to_differ(ask: Callable[[str, str], str]) -> None:
     """Lets the three domains do different things: ann's node waits for a word, two of the four have booted, fay does nothing."""
     for line in WORD:
         ask("ann", line)
@@ -144,9 +144,9 @@ def test_alike_domains_are_told_apart(folder: str) -> None:
 
 def heard_why(client: Client) -> str:
     """An answer to `why` at a socket."""
-    told = [client.ask("why") or ""]
+    told = [client.ask("why")]
     while told[-1] != "why end":
-        told.append(client.hear() or "why end")
+        told.append(client.hear())
     return told_why(told)
 
 

@@ -379,7 +379,7 @@ def test_users_of_serve_are_told() -> None:
         assert (status, first, rest) == (0, "rest full", ["restart ok", "look 0 booting overruns 0 0 0 0"])
         assert "restart begins anew" in second
         operator = served.client("operator")
-        assert re.fullmatch(r"!memory \d+ 2097152", operator.ask("memory") or "")
+        assert re.fullmatch(r"!memory \d+ 2097152", operator.ask("memory"))
         assert served.stop()[0] == 0
 
 

@@ -63,10 +63,9 @@ class Client:
     def say(self, text: str) -> None:
         self.stream.sendall(text.encode())
 
-    def hear(self) -> str | None:
-        """The next line; none at the end."""
-        line = self.lines.readline()
-        return line.decode(errors="backslashreplace").removesuffix("\n") if line else None
+    def hear(self) -> str:
+        """The next line; empty at the end."""
+        return self.lines.readline().decode(errors="backslashreplace").removesuffix("\n")
 
     def until(self, start: str) -> str:
         """The next line that begins so."""
@@ -74,14 +73,15 @@ class Client:
             pass
         return line
 
-    def ask(self, line: str) -> str | None:
+    def ask(self, line: str) -> str:
+        """The answer to a line; empty if the connection has ended."""
         self.say(line + "\n")
         return self.hear()
 
     def must(self, line: str) -> str:
         """The answer to a line, which is sent again as long as it wasn't answered."""
         self.say(line + "\n")
-        while (answer := self.hear()) is not None:
+        while answer := self.hear():
             if answer.startswith("error: not answered"):
                 self.served.repeats += 1
                 self.say(line + "\n")
@@ -152,7 +152,7 @@ class Served:
     def client(self, name: str) -> Client:
         return Client(self, f"{self.folder}/{name}.sock")
 
-    def ask(self, name: str, line: str) -> str | None:
+    def ask(self, name: str, line: str) -> str:
         """The answer to a line on a connection of its own."""
         client = self.client(name)
         try:
@@ -292,7 +292,7 @@ PIECES = [
     b"#7 ",
 ]
 # So many bytes a line may have, with its line feed (docs/LIVE.md). Now and then one has more.
-MOST_LINE, LONG = 1 << 20, 10_000_000
+MOST_LINE, LONG_LINE = 1 << 20, 10_000_000
 ONE_LONG = 40_000
 
 
@@ -308,7 +308,7 @@ def fuzzed(chance: random.Random, count: int, name: str) -> list[bytes]:
         line = b"".join(chance.choices(PIECES, k=chance.randrange(5)))
         if name == "operator" and without_tag(line).lstrip(b"!").startswith((b"stop", b"words", b"users")):
             continue
-        lines.append(b"look 0" + b"9" * LONG if chance.randrange(ONE_LONG) == 0 else line)
+        lines.append(b"look 0" + b"9" * LONG_LINE if chance.randrange(ONE_LONG) == 0 else line)
     return lines
 
 
@@ -318,7 +318,7 @@ def connections(chance: random.Random, lines: Sequence[bytes], most: int) -> Ite
     at = 0
     while at < len(lines):
         some = lines[at : at + chance.randrange(1, most)]
-        long = next((place for place, line in enumerate(some) if len(line) >= LONG), None)
+        long = next((place for place, line in enumerate(some) if len(line) >= LONG_LINE), None)
         some = some if long is None else some[: long + 1]
         yield some, b"".join(chance.choices(PIECES, k=chance.randrange(3))) if long is None else b""
         at += len(some)

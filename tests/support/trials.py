@@ -144,7 +144,7 @@ def run(
     return Ran(done.returncode, done.stdout, done.stderr)
 
 
-def said(
+def run_text(
     call: list[str],
     text: str = "",
     env: dict[str, str] | None = None,
@@ -157,11 +157,11 @@ def said(
     )
 
 
-def said_together(
+def run_together(
     call: list[str], text: str = "", env: dict[str, str] | None = None
 ) -> "subprocess.CompletedProcess[str]":
     """The same, with standard error among standard output."""
-    return said(["sh", "-c", 'exec "$@" 2>&1', "sh", *call], text, env)
+    return run_text(["sh", "-c", 'exec "$@" 2>&1', "sh", *call], text, env)
 
 
 def by_workers(count: int, quantum: int | None = None) -> list[str]:

@@ -1,5 +1,6 @@
-"""The trials of `class check` and `class wall`: what is said of students' programs and of their machines, and that neither is an
+"""`class check` and `class wall`: what is said of students' programs and of their machines, and that neither is an
 event of any machine."""
+
 import csv
 import html.parser
 import os
@@ -7,10 +8,12 @@ import shutil
 import signal
 import subprocess
 import time
+from typing import Any
 
-from class_trials import Course
-from serving_trials import SECONDS, hears_ctrl_c, wanted
-from trials import PROGRAMS, TOP
+from support.courses import Course
+from support.live_lines import SECONDS
+from support.serving_trials import hears_ctrl_c
+from support.trials import PROGRAMS, TOP, put, run_text, text_of
 
 EXERCISES = f"{TOP}/examples/exercises"
 # Solutions, and programs that are none.
@@ -62,13 +65,14 @@ ENDLESS = "        ajw 4\nloop:   j loop\n"
 class Page(html.parser.HTMLParser):
     """A page's texts, cell by cell, and all that it would fetch."""
 
-    def __init__(self, path):
+    def __init__(self, path: str) -> None:
         super().__init__()
-        self.rows, self.fetched, self.is_cell = [], [], False
-        with open(path, encoding="utf-8") as it:
-            self.feed(it.read())
+        self.rows: list[list[str]] = []
+        self.fetched: list[str | None] = []
+        self.is_cell = False
+        self.feed(text_of(path))
 
-    def handle_starttag(self, tag, attrs):
+    def handle_starttag(self, tag: str, attrs: list[tuple[str, str | None]]) -> None:
         self.fetched += [value for name, value in attrs if name in ("src", "href", "data", "action")]
         self.fetched += [tag] if tag in ("script", "link", "iframe", "img", "b") else []
         if tag == "tr":
@@ -79,10 +83,10 @@ class Page(html.parser.HTMLParser):
         elif tag in ("br", "div", "pre") and self.is_cell:
             self.rows[-1][-1] += "\n"
 
-    def handle_endtag(self, tag):
+    def handle_endtag(self, tag: str) -> None:
         self.is_cell = self.is_cell and tag not in ("td", "th")
 
-    def handle_data(self, data):
+    def handle_data(self, data: str) -> None:
         if self.is_cell:
             self.rows[-1][-1] += data
 
@@ -90,48 +94,44 @@ class Page(html.parser.HTMLParser):
 class Checked:
     """A class, programs of its students, and what `class check` makes of them."""
 
-    def __init__(self, live, people):
-        self.course = Course(live, 1)
+    def __init__(self, people: list[str]) -> None:
+        self.course = Course(1)
         self.room = self.course.room.name
         self.names, self.programs = f"{self.room}/people.txt", f"{self.room}/programs"
         self.folder = f"{self.room}/pupils"
         os.mkdir(self.programs)
-        with open(self.names, "w", encoding="utf-8") as it:
-            it.write("".join(f"{person}\n" for person in people))
-        wanted(self.course.call("--students", self.names, "--nodes", "1", self.folder).returncode, 0)
+        put(self.names, "".join(f"{person}\n" for person in people))
+        assert self.course.call("--students", self.names, "--nodes", "1", self.folder).returncode == 0
 
-    def __enter__(self):
+    def __enter__(self) -> "Checked":
         return self
 
-    def __exit__(self, *more):
+    def __exit__(self, *more: object) -> None:
         self.course.__exit__(*more)
 
-    def write(self, name, text):
+    def write(self, name: str, text: str | bytes) -> None:
         os.makedirs(os.path.dirname(f"{self.programs}/{name}"), exist_ok=True)
-        with open(f"{self.programs}/{name}", "wb") as it:
-            it.write(text if isinstance(text, bytes) else text.encode())
+        put(f"{self.programs}/{name}", text)
 
-    def exercise(self, text):
+    def exercise(self, text: str) -> str:
         path = f"{self.room}/one.txt"
-        with open(path, "w", encoding="utf-8", errors="surrogateescape") as it:
-            it.write(text)
-        return path
+        return put(path, text.encode(errors="surrogateescape"))
 
-    def call(self, exercise, *words):
+    def call(self, exercise: str, *words: str) -> "subprocess.CompletedProcess[str]":
         return self.course.call("check", *words, self.folder, exercise, self.programs)
 
-    def results(self, exercise):
+    def results(self, exercise: str) -> tuple[dict[str, Any], str]:
         """The rows of the table for a spreadsheet, by user: the points, the Steps, what came of each test, and the remark."""
         done = self.call(exercise, "--csv", f"{self.room}/out.csv")
-        wanted((done.returncode, done.stderr), (0, ""))
+        assert (done.returncode, done.stderr) == (0, "")
         with open(f"{self.room}/out.csv", encoding="utf-8", newline="") as it:
             rows = [*csv.reader(it)]
         return {row[0]: (int(row[3]), row[5], row[6:-1], row[-1]) for row in rows[1:]}, done.stdout
 
 
-def exercises_are_marked(live, _):
+def test_exercises_are_marked() -> None:
     """What comes of right and of wrong programs in the three exercises; the values are those that the exercises ask for."""
-    with Checked(live, ["Ada Lovelace", "Émile Borel", "Eve", "Fay", "Gus", "Hal"]) as it:
+    with Checked(["Ada Lovelace", "Émile Borel", "Eve", "Fay", "Gus", "Hal"]) as it:
         shutil.copy(f"{PROGRAMS}/successor.s", f"{it.programs}/Ada Lovelace.s")
         shutil.copy(f"{PROGRAMS}/echo.s", f"{it.programs}/emile_borel.s")
         it.write("eve.s", ENDLESS)
@@ -140,67 +140,56 @@ def exercises_are_marked(live, _):
         it.write("Zoe.s", ENDLESS)
         it.write("notes.txt", "nothing")
         got, told = it.results(f"{EXERCISES}/successor.txt")
-        with open(f"{EXERCISES}/successor.txt", encoding="utf-8") as text:
-            line = text.read().split("\n").index("    expect 0 word 7") + 1
-        wanted(
-            {name: row[:1] + row[2:3] for name, row in got.items()},
-            {
-                "ada-lovelace": (5, ["ok"] * 4),
-                "emile-borel": (0, ["wrong"] * 4),
-                "eve": (0, ["too long"] * 4),
-                "fay": (0, ["-"] * 4),
-                "gus": (0, ["-"] * 4),
-                "hal": (0, ["-"] * 4),
-            },
-        )
-        wanted(
-            [got[name][3] for name in ("ada-lovelace", "emile-borel", "eve", "fay", "hal")],
-            [
-                "",
-                f"one word: line {line}: 07000000 is expected, and 06000000 came",
-                "one word: it took more than 2000 Steps",
-                "there is no program",
-                "hal.s has more than 1048576 bytes",
-            ],
-        )
-        wanted((got["gus"][3][:30], "move" in got["gus"][3]), ("line 2, column 9: fault 2: exp", True))
-        for line in (
+        line = text_of(f"{EXERCISES}/successor.txt").split("\n").index("    expect 0 word 7") + 1
+        assert {name: row[:1] + row[2:3] for name, row in got.items()} == {
+            "ada-lovelace": (5, ["ok"] * 4),
+            "emile-borel": (0, ["wrong"] * 4),
+            "eve": (0, ["too long"] * 4),
+            "fay": (0, ["-"] * 4),
+            "gus": (0, ["-"] * 4),
+            "hal": (0, ["-"] * 4),
+        }
+        assert [got[name][3] for name in ("ada-lovelace", "emile-borel", "eve", "fay", "hal")] == [
+            "",
+            f"one word: line {line}: 07000000 is expected, and 06000000 came",
+            "one word: it took more than 2000 Steps",
+            "there is no program",
+            "hal.s has more than 1048576 bytes",
+        ]
+        assert (got["gus"][3][:30], "move" in got["gus"][3]) == ("line 2, column 9: fault 2: exp", True)
+        for note in (
             "note: {0}/Zoe.s is no student's program",
             "note: {0}/notes.txt is no student's program",
             "Add one to each word: 1 of 6 have all 5 points",
             "1 one word: 1 of 6",
         ):
-            wanted((line, line.format(it.programs) in told.splitlines()), (line, True))
-        steps = int(got["ada-lovelace"][1])
+            assert note.format(it.programs) in told.splitlines()
         for name in os.listdir(it.programs):
             os.remove(f"{it.programs}/{name}")
         it.write("ada-lovelace.s", SUM.format(sum="add"))
         it.write("emile-borel.s", SUM.format(sum="diff"))
         got, _ = it.results(f"{EXERCISES}/sum.txt")
         # 3 - 4, 1 - 2, 200 - 100 and 9 - 1 are other bytes; after 9 alone nothing comes of either
-        wanted([got[name][2] for name in ("ada-lovelace", "emile-borel")], [["ok"] * 4, ["wrong"] * 4])
-        wanted(got["emile-borel"][3].endswith(": 07 is expected, and ff came"), True)
+        assert [got[name][2] for name in ("ada-lovelace", "emile-borel")] == [["ok"] * 4, ["wrong"] * 4]
+        assert got["emile-borel"][3].endswith(": 07 is expected, and ff came")
         it.write("ada-lovelace.s", TOTAL)
         it.write("emile-borel.s", TOTAL.replace("cj done", "cj again"))
         got, _ = it.results(f"{EXERCISES}/total")
-        wanted([got[name][2] for name in ("ada-lovelace", "emile-borel")], [["ok"] * 3, ["wrong"] * 3])
-        wanted(
-            got["emile-borel"][3].endswith(': 2a000000 "*\\x00\\x00\\x00" is expected, and nothing came')
-            or got["emile-borel"][3].endswith(": 2a000000 is expected, and nothing came"),
-            True,
-        )
-    return f"three exercises; {steps} Steps of a right program"
+        assert [got[name][2] for name in ("ada-lovelace", "emile-borel")] == [["ok"] * 3, ["wrong"] * 3]
+        assert got["emile-borel"][3].endswith(': 2a000000 "*\\x00\\x00\\x00" is expected, and nothing came') or got[
+            "emile-borel"
+        ][3].endswith(": 2a000000 is expected, and nothing came")
 
 
-def steps_are_bounded(live, _):
+def test_steps_are_bounded() -> None:
     """The Steps that are shown are just as many as are wanted: with one less the test takes too long."""
     text = "{head}before\njoin 0 1\nload 0 student\ntest one\nsend 0 word 41\nexpect 0 word 42\n"
-    with Checked(live, ["Ada"]) as it:
+    with Checked(["Ada"]) as it:
         shutil.copy(f"{PROGRAMS}/successor.s", f"{it.programs}/ada.s")
         steps = int(it.results(it.exercise(text.format(head="")))[0]["ada"][1])
         for bound, result in ((steps, "ok"), (steps - 1, "too long")):
-            wanted(it.results(it.exercise(text.format(head=f"steps {bound}\n")))[0]["ada"][2], [result])
-            wanted(it.results(it.exercise(text.format(head="steps 1\n") + f"steps {bound}\n"))[0]["ada"][2], [result])
+            assert it.results(it.exercise(text.format(head=f"steps {bound}\n")))[0]["ada"][2] == [result]
+            assert it.results(it.exercise(text.format(head="steps 1\n") + f"steps {bound}\n"))[0]["ada"][2] == [result]
         # a program that is begun but isn't there, one in a folder, and a state
         os.remove(f"{it.programs}/ada.s")
         it.write("Ada/left.s", "        stopp\n")
@@ -209,10 +198,9 @@ def steps_are_bounded(live, _):
             "nodes 2\nhosts 2\ntest both\njoin 0 4\njoin 2 5\nload 0 student/left.s\nload 1 student/right.s\n"
             "state 0 idle\nstate 1 halted 1\n"
         )
-        wanted(it.results(it.exercise(both))[0]["ada"][2:], (["ok"], ""))
-        wanted(it.results(it.exercise(both.replace("halted 1", "idle")))[0]["ada"][2], ["wrong"])
-        wanted(it.results(it.exercise(text.format(head="")))[0]["ada"][3], "there is no file student.occ or student.s")
-    return f"{steps} Steps, and {steps - 1}"
+        assert it.results(it.exercise(both))[0]["ada"][2:] == (["ok"], "")
+        assert it.results(it.exercise(both.replace("halted 1", "idle")))[0]["ada"][2] == ["wrong"]
+        assert it.results(it.exercise(text.format(head="")))[0]["ada"][3] == "there is no file student.occ or student.s"
 
 
 # A program in occam that adds one to each word.
@@ -227,38 +215,35 @@ WHILE TRUE
 """
 
 
-def students_choose_the_language(live, _):
+def test_students_choose_the_language() -> None:
     """A student's program is in occam or in assembly; an exercise may want one of them. What the compiler says of a wrong text is
     the remark."""
     text = "before\njoin 0 1\nload 0 {file}\ntest one\nsend 0 word 41\nexpect 0 word 42\n"
-    with Checked(live, ["Ada", "Bob", "Eve", "Zoe"]) as it:
+    with Checked(["Ada", "Bob", "Eve", "Zoe"]) as it:
         it.write("ada.occ", SUCCESSOR)
         shutil.copy(f"{PROGRAMS}/successor.s", f"{it.programs}/bob.s")
         it.write("eve/student.occ", SUCCESSOR.replace("+ 1", "+ 2"))
         it.write("zoe.occ", SUCCESSOR.replace("word:", "wort:"))
         got = it.results(it.exercise(text.format(file="student")))[0]
-        wanted([got[name][2] for name in ("ada", "bob", "eve", "zoe")], [["ok"], ["ok"], ["wrong"], ["-"]])
-        wanted(
-            got["zoe"][3],
-            'line 7, column 12: fault 16: expected a name that is declared, not "word". Is it wort (line 4)?',
+        assert [got[name][2] for name in ("ada", "bob", "eve", "zoe")] == [["ok"], ["ok"], ["wrong"], ["-"]]
+        assert (
+            got["zoe"][3]
+            == 'line 7, column 12: fault 16: expected a name that is declared, not "word". Is it wort (line 4)?'
         )
         got = it.results(it.exercise(text.format(file="student.s")))[0]
-        wanted(
-            (got["ada"][2:], got["bob"][2]), ((["-"], "ada.occ is a program in occam, and assembly is wanted"), ["ok"])
+        assert (got["ada"][2:], got["bob"][2]) == (
+            (["-"], "ada.occ is a program in occam, and assembly is wanted"),
+            ["ok"],
         )
         got = it.results(it.exercise(text.format(file="student.occ")))[0]
-        wanted((got["ada"][2], got["bob"][3]), (["ok"], "bob.s is a program in assembly, and occam is wanted"))
+        assert (got["ada"][2], got["bob"][3]) == (["ok"], "bob.s is a program in assembly, and occam is wanted")
         it.write("eve/student.s", "        stopp\n")
         shutil.copy(f"{PROGRAMS}/successor.s", f"{it.programs}/ada.s")
         got = it.results(it.exercise(text.format(file="student")))[0]
-        wanted(
-            [got[name][3] for name in ("ada", "eve")],
-            [
-                "there are ada.occ and ada.s, and one of them is wanted",
-                "there are student.occ and student.s, and one of them is wanted",
-            ],
-        )
-    return "two languages"
+        assert [got[name][3] for name in ("ada", "eve")] == [
+            "there are ada.occ and ada.s, and one of them is wanted",
+            "there are student.occ and student.s, and one of them is wanted",
+        ]
 
 
 # Texts of exercises that are refused, each with what is said; P is the path.
@@ -305,34 +290,33 @@ UNFIT = [
 ]
 
 
-def unfit_exercises_are_refused(live, _):
+def test_unfit_exercises_are_refused() -> None:
     """All wrong lines of an exercise are said together, each by its number, and nothing is tried."""
-    with Checked(live, ["Ada"]) as it:
+    with Checked(["Ada"]) as it:
         for text, told in UNFIT:
             path = it.exercise(text)
             done = it.call(path)
             said = "".join(
                 f"class: {line}\n" for line in told.replace("P", path, 1).replace("\nP", f"\n{path}").split("\n")
             )
-            wanted((text, done.returncode, done.stdout, done.stderr), (text, 1, "", said))
+            assert (text, done.returncode, done.stdout, done.stderr) == (text, 1, "", said)
         for words, told in (
             (["nowhere"], "there is no file"),
             ([it.room], "the folder of an exercise has a file exercise.txt"),
         ):
             done = it.call(*words)
-            wanted((words, done.returncode, told in done.stderr), (words, 1, True))
+            assert (words, done.returncode, told in done.stderr) == (words, 1, True)
         done = it.course.call("check", it.folder, it.exercise(GOOD), f"{it.room}/nobody")
-        wanted((done.returncode, "the folder of programs" in done.stderr), (1, True))
+        assert (done.returncode, "the folder of programs" in done.stderr) == (1, True)
         done = it.course.call("check", "--csv", f"{it.room}/no/file", it.folder, it.exercise(GOOD), it.programs)
-        wanted((done.returncode, "Traceback" in done.stderr), (1, False))
-    return f"{len(UNFIT)} texts"
+        assert (done.returncode, "Traceback" in done.stderr) == (1, False)
 
 
-def tables_are_safe(live, _):
+def test_tables_are_safe() -> None:
     """A page shows what came and why, fetches nothing, and takes no name or remark for its own marks; no cell of a spreadsheet is a
     formula. The machines of the class notice nothing of it."""
-    with Checked(live, ["=1+1 <b>Ada</b>", "Bob"]) as it:
-        wanted(it.course.call("start", it.folder).returncode, 0)
+    with Checked(["=1+1 <b>Ada</b>", "Bob"]) as it:
+        assert it.course.call("start", it.folder).returncode == 0
         try:
             before = it.course.call("status", it.folder).stdout.partition("\n\n")[0]
             it.write("1 1 b Ada b.s", "        ldc <b>\n")
@@ -342,43 +326,34 @@ def tables_are_safe(live, _):
                 '"hello"\n'
             )
             done = it.call(exercise, "--html", f"{it.room}/page.html", "--csv", f"{it.room}/out.csv")
-            wanted((done.returncode, done.stderr), (0, ""))
-            wanted(it.course.call("status", it.folder).stdout.partition("\n\n")[0], before)
+            assert (done.returncode, done.stderr) == (0, "")
+            assert it.course.call("status", it.folder).stdout.partition("\n\n")[0] == before
         finally:
             it.course.call("stop", it.folder)
         page = Page(f"{it.room}/page.html")
-        wanted(page.fetched, [])
-        wanted(page.rows[0], ["student", "points", "steps", "a <i>greeting</i>"])
-        wanted([row[0].split("\n") for row in page.rows[1:]], [["=1+1 <b>Ada</b>", "1 1 b Ada b.s"], ["Bob", "bob.s"]])
+        assert page.fetched == []
+        assert page.rows[0] == ["student", "points", "steps", "a <i>greeting</i>"]
+        assert [row[0].split("\n") for row in page.rows[1:]] == [["=1+1 <b>Ada</b>", "1 1 b Ada b.s"], ["Bob", "bob.s"]]
         cell = page.rows[2][3].split("\n")
-        wanted((cell[0], cell[1]), ("wrong", 'line 6: 68656c6c6f "hello" is expected, and 3d "=" came'))
-        wanted("node 0 has ended" in page.rows[2][3], True)
-        wanted("fault 3" in page.rows[1][3], True)
+        assert (cell[0], cell[1]) == ("wrong", 'line 6: 68656c6c6f "hello" is expected, and 3d "=" came')
+        assert "node 0 has ended" in page.rows[2][3]
+        assert "fault 3" in page.rows[1][3]
         with open(f"{it.room}/out.csv", encoding="utf-8", newline="") as file:
             rows = [*csv.reader(file)]
-        wanted(rows[1][1], "'=1+1 <b>Ada</b>")
-        wanted([cell for row in rows for cell in row if cell[:1] in "=+-@" and cell not in ("", "-")], [])
-    return "a page and a spreadsheet"
+        assert rows[1][1] == "'=1+1 <b>Ada</b>"
+        assert [cell for row in rows for cell in row if cell[:1] in "=+-@" and cell not in ("", "-")] == []
 
 
-def the_wall_is_no_event(live, _):
+def test_the_wall_is_no_event() -> None:
     """The page of a class says what nodes wait for, by records alone: no machine has an event or a line more, and no record
     changes. It is written again and again until Ctrl-C."""
-    with Course(live, 3, "--nodes", "2") as it:
+    with Course(3, "--nodes", "2") as it:
         it.must("start")
 
-        def ask(name, text):
-            subprocess.run(
-                [f"{TOP}/connect", it.folder, name],
-                input=text,
-                env=it.env,
-                capture_output=True,
-                encoding="utf-8",
-                timeout=SECONDS,
-                check=True,
-            )
+        def ask(name: str, text: str) -> None:
+            assert run_text([f"{TOP}/connect", it.folder, name], text).returncode == 0
 
-        def seen():
+        def seen() -> tuple[str, list[str], list[int]]:
             records = sorted(os.listdir(f"{it.folder}/farm-1/records"))
             sizes = [os.path.getsize(f"{it.folder}/farm-1/records/{name}") for name in records]
             return it.must("status").partition("\n\n")[0], records, sizes
@@ -388,23 +363,22 @@ def the_wall_is_no_event(live, _):
         before = seen()
         page = f"{it.room.name}/wall.html"
         done = it.call("wall", "--once", it.folder, page)
-        wanted((done.returncode, done.stdout, done.stderr), (0, "", ""))
+        assert (done.returncode, done.stdout, done.stderr) == (0, "", "")
         wall = Page(page)
-        wanted(wall.fetched, [])
-        wanted(wall.rows[0], ["student", "now", "nodes", "room", "lines", "last fault"])
+        assert wall.fetched == []
+        assert wall.rows[0] == ["student", "now", "nodes", "room", "lines", "last fault"]
         rows = {row[0].split("\n")[0]: row for row in wall.rows[1:]}
-        wanted([*rows], ["Student 1", "Student 2", "Student 3"])
+        assert [*rows] == ["Student 1", "Student 2", "Student 3"]
         for name, now, nodes, fault in (
             ("Student 1", "quiet", "node 0 has ended: no process is left.\nnode 1 waits for a control " "byte.", "-"),
             ("Student 2", "quiet", "node 0 halted by fault 1", "node 0: 1"),
         ):
-            wanted((name, rows[name][1], nodes in rows[name][2], rows[name][5]), (name, now, True, fault))
-        wanted(
+            assert (name, rows[name][1], nodes in rows[name][2], rows[name][5]) == (name, now, True, fault)
+        assert (
             rows["Student 3"][2].strip() in ("nothing was done yet", "")
-            or "node 0 waits for a control byte" in rows["Student 3"][2],
-            True,
+            or "node 0 waits for a control byte" in rows["Student 3"][2]
         )
-        # pylint: disable-next=subprocess-popen-preexec-fn
+
         with subprocess.Popen(
             [f"{TOP}/class", "wall", "--seconds", "1", it.folder, page],
             env=it.env,
@@ -414,7 +388,7 @@ def the_wall_is_no_event(live, _):
             preexec_fn=hears_ctrl_c,
         ) as writing:
             try:
-                times, end = set(), time.monotonic() + 2 * SECONDS
+                times, end = set[int](), time.monotonic() + 2 * SECONDS
                 while len(times) < 3 and time.monotonic() < end:
                     times.add(os.stat(page).st_mtime_ns)
                     time.sleep(0.1)
@@ -422,24 +396,13 @@ def the_wall_is_no_event(live, _):
                 told = writing.communicate(timeout=SECONDS)
             finally:
                 writing.kill()
-        wanted((len(times) >= 3, writing.returncode, told), (True, 130, ("", "")))
-        wanted(seen(), before)
+        assert (len(times) >= 3, writing.returncode, told) == (True, 130, ("", ""))
+        assert seen() == before
         it.must("stop")
-        wanted(it.call("wall", "--once", it.folder, page).returncode, 0)
-        wanted([row[1] for row in Page(page).rows[1:]], ["off"] * 3)
+        assert it.call("wall", "--once", it.folder, page).returncode == 0
+        assert [row[1] for row in Page(page).rows[1:]] == ["off"] * 3
         done = it.call("wall", "--once", it.folder, f"{it.room.name}/no/wall.html")
-        wanted(
-            (done.returncode, done.stderr),
-            (1, f"class: there can be no file {it.room.name}/no/wall.html: choose another\n"),
+        assert (done.returncode, done.stderr) == (
+            1,
+            f"class: there can be no file {it.room.name}/no/wall.html: choose another\n",
         )
-    return "three students"
-
-
-TRIALS = (
-    exercises_are_marked,
-    steps_are_bounded,
-    students_choose_the_language,
-    unfit_exercises_are_refused,
-    tables_are_safe,
-    the_wall_is_no_event,
-)

@@ -1,24 +1,18 @@
-#!/usr/bin/env -S python3 -B
-"""Tries `lab trace`: the labels and lines of a program beside its Steps, worked by hand from docs/TRACE.md, docs/LAB.md and
+"""`lab trace`: the labels and lines of a program beside its Steps, worked by hand from docs/TRACE.md, docs/LAB.md and
 docs/PROCESSOR.md; the nodes of a plan, and the record of a script; the bound of Steps; how far long work is, at a
-pseudo-terminal; and that Ctrl-C ends it at once.
+pseudo-terminal; and that Ctrl-C ends it at once."""
 
-usage: tests/trace [TRIAL ..]    all trials if none is named
-
-What differs is printed, and at the end how many trials are as expected. The status is 1 if one isn't. It takes half a minute."""
 import contextlib
-import difflib
 import os
 import pty
 import re
 import signal
 import subprocess
-import sys
 import tempfile
 import time
 
-from recorded import JOINED, ONE, TWO, assembled, boot, lab, recorded
-from trials import TOP, built, run
+from support.recorded import JOINED, ONE, TWO, assembled, boot, lab, recorded
+from support.trials import LAB
 
 # ldc 0 at 80000048, cj 2 at 80000049, j -3 at 8000004a (60 0d), stopp at 8000004c (21 f5). The code ends at 8000004e, so W is
 # 80000050, and stopp saves 8000004e at 8000004c. A and B are 0 after the boot, and C is 80000010.
@@ -108,28 +102,17 @@ def lines(text, *words, verb="trace"):
     return lab([verb, *words], text.encode())
 
 
-TRIALS = {}
+def test_shows_labels_and_lines() -> None:
+    assert traced(PROGRAM) == (0, TRACED, "")
 
 
-def trial(function):
-    TRIALS[function.__name__] = function
-    return function
-
-
-@trial
-def shows_labels_and_lines():
-    return traced(PROGRAM), (0, TRACED, "")
-
-
-@trial
-def stops_at_a_label():
+def test_stops_at_a_label() -> None:
     begun = "".join(TRACED.splitlines(keepends=True)[:2]) + "stopped before 8000004c\n"
-    return [traced(PROGRAM, "--until", it) for it in ("done", "8000004c")], [(0, begun, "")] * 2
+    assert [traced(PROGRAM, "--until", it) for it in ("done", "8000004c")] == [(0, begun, "")] * 2
 
 
-@trial
-def shows_no_line_behind_the_program():
-    return traced(BEHIND, "--steps", "3"), (
+def test_shows_no_line_behind_the_program() -> None:
+    assert traced(BEHIND, "--steps", "3") == (
         0,
         """\
 80000048 ldc 0                 -             ldc 0  ran C 00000000
@@ -141,29 +124,26 @@ stopped after 3 Steps. --steps N traces more
     )
 
 
-@trial
-def shows_lines_of_occam():
+def test_shows_lines_of_occam() -> None:
     """The code of an IF around its choices belongs to the line of IF, wherever it is."""
     with tempfile.NamedTemporaryFile("w", suffix=".occ") as it:
         it.write(OCCAM)
         it.flush()
         code = lab(["occam", it.name, "--code"])
-    return (code, traced(OCCAM, suffix=".occ")), ((0, OCCAM_CODE + "\n", ""), (0, OCCAM_TRACED, ""))
+    assert (code, traced(OCCAM, suffix=".occ")) == ((0, OCCAM_CODE + "\n", ""), (0, OCCAM_TRACED, ""))
 
 
-@trial
-def shows_lines_of_instances():
+def test_shows_lines_of_instances() -> None:
     """The line of the PROC, and in brackets that of the instance."""
     status, out, errors = traced(TWICE, suffix=".occ")
     places = [(it[:8], it[31:45].strip(), it[45:55]) for it in out.splitlines() if it[31:35] == "line"]
     wanted = []
     for address, line in ((0x8000004B, 9), (0x80000055, 10)):
         wanted += [(f"{address + at:08x}", f"line {5 if at < 5 else 6} ({line})", "c ! letter") for at in range(10)]
-    return (status, errors, places), (0, "", wanted)
+    assert (status, errors, places) == (0, "", wanted)
 
 
-@trial
-def refuses_programs():
+def test_refuses_programs() -> None:
     long = "space 256\n"
     hint = "(`lab assemble --pokes HOST USER` prints the lines of a script that load more)"
     # 53 assignments of 5 bytes: ldc 4660 has four, and stl 1 one
@@ -171,7 +151,7 @@ def refuses_programs():
     tried = [traced(it) for it in (long, "stopp\nldl x\n", "rev\n")] + [
         traced(it, suffix=".occ") for it in (occam, "x := y\n")
     ]
-    return tried, [
+    assert tried == [
         (4, "", f"FILE: the code has 256 bytes, and a boot takes 2 to 255 {hint}\n"),
         (4, "", 'FILE: line 2, column 5: fault 13: expected a name that is defined, not "x"\n'),
         (4, "", "FILE: the code has 1 bytes, and a boot takes 2 to 255\n"),
@@ -185,8 +165,7 @@ def refuses_programs():
     ]
 
 
-@trial
-def lists_faults():
+def test_lists_faults() -> None:
     """`lab assemble` shows each wrong line in their order; of more than twenty the first twenty, and that there are more. A name that a
     wrong line defines is no fault elsewhere."""
     wrong = "    mov 5\nloop:\n    ldc Count\n    def n = 0x10\n    byte n\n    local count\n    pfix 16\n    j loop\n"
@@ -200,7 +179,7 @@ def lists_faults():
     )
     twenty = "".join(f'line {it + 1}, column 1: fault 2: {named}foo"\n' for it in range(20))
     long = "space 65000\nspace 400\nspace 65\nspace 1\n"
-    return [lines(it, verb="assemble") for it in (wrong, "foo\n" * 20, "foo\n" * 21, "rev\n" + long)], [
+    assert [lines(it, verb="assemble") for it in (wrong, "foo\n" * 20, "foo\n" * 21, "rev\n" + long)] == [
         (4, "", told),
         (4, "", twenty),
         (4, "", f"{twenty}More lines are wrong\n"),
@@ -208,23 +187,21 @@ def lists_faults():
     ]
 
 
-@trial
-def bounds_steps():
+def test_bounds_steps() -> None:
     """All Steps of `step` and `run` count, and what is printed is whole or nothing."""
     ended = (7, "", "stopped after 9 Steps: --steps N allows more\n")
     asked = ("run 10\n", "run 5\nrun 5\n", "step 10\n", "run 9\nstep\n")
     tried = [lines(LOOP + it, "--steps", "9") for it in asked]
-    return (tried, lines(LOOP + "run 10\n", "--steps", "10"), lines("node running 0\nrun 99\n", "--steps", "1")), (
+    assert (tried, lines(LOOP + "run 10\n", "--steps", "10"), lines("node running 0\nrun 99\n", "--steps", "1")) == (
         [ended] * 4,
         (0, "-\n10 ran bytes 10\n", ""),
         (0, "-\n0\n", ""),
     )
 
 
-@trial
-def many_steps_are_one_answer():
+def test_many_steps_are_one_answer() -> None:
     """A slice is 1,024 bytes, and ends with a j: 3,000,000 bytes are 2,929 slices and 704 bytes. Each end saves Iptr at 800001fc."""
-    return lines(LOOP + "run 3000000\n"), (0, "-\n3000000 ran bytes 704 Back 80000200 word 800001fc 80000048\n", "")
+    assert lines(LOOP + "run 3000000\n") == (0, "-\n3000000 ran bytes 704 Back 80000200 word 800001fc 80000048\n", "")
 
 
 def told_at_terminal(words, text):
@@ -233,7 +210,7 @@ def told_at_terminal(words, text):
     with tempfile.TemporaryFile() as it:
         it.write(text.encode())
         it.seek(0)
-        going = subprocess.Popen([built("lab"), *words], stdin=it, stdout=subprocess.PIPE, stderr=theirs)
+        going = subprocess.Popen([LAB, *words], stdin=it, stdout=subprocess.PIPE, stderr=theirs)
         out = going.communicate(timeout=120)[0].decode()
     os.close(theirs)
     told = b""
@@ -251,17 +228,15 @@ def told_at_terminal(words, text):
     return out, is_told
 
 
-@trial
-def tells_how_far_it_is():
+def test_tells_how_far_it_is() -> None:
     """On a terminal the number of Steps stands there and is wiped at the end. Elsewhere standard error stays empty."""
     text = LOOP + "run 600000000\n"
     # 600,000,000 bytes are 585,937 slices and 512 bytes
     wanted = "-\n600000000 ran bytes 512 Back 80000200 word 800001fc 80000048\n"
-    return (*told_at_terminal(["trace"], text), lines(text)), (wanted, True, (0, wanted, ""))
+    assert (*told_at_terminal(["trace"], text), lines(text)) == (wanted, True, (0, wanted, ""))
 
 
-@trial
-def tells_how_far_a_farm_is():
+def test_tells_how_far_a_farm_is() -> None:
     """The same of a domain that settles, of a user's domain, which settles behind each line, and of a record, whoever reads it."""
     asked = [JOINED, boot(ENDLESS), "0 settle 16 100"]
     begun = ONE + "\n".join(asked) + "\n"
@@ -272,7 +247,7 @@ def tells_how_far_a_farm_is():
         told = [told_at_terminal([word, it.name], "")[1] for word in ("debug", "why", "film", "rows")]
     replayed, is_told = told_at_terminal(["replay"], begun + "0 settle 4096 100000\n")
     shown, are_told = told_at_terminal(["run"], looks)
-    return (replayed.splitlines()[-1], is_told, set(shown.splitlines()[2:]), are_told, told), (
+    assert (replayed.splitlines()[-1], is_told, set(shown.splitlines()[2:]), are_told, told) == (
         "busy",
         True,
         {"ann look 0 running overruns 0 0 0 0"},
@@ -281,8 +256,7 @@ def tells_how_far_a_farm_is():
     )
 
 
-@trial
-def records_a_script():
+def test_records_a_script() -> None:
     """`lab run --record` prints what the journal of the domain has, and `lab rows` finds nothing wrong in it."""
     asked = [
         "ann config 01000703",
@@ -298,7 +272,7 @@ def records_a_script():
         judged = lab(["rows", it.name])
     events = record.split("---\n")[1]
     wanted = recorded(ONE, asked).split("---\n")[1]
-    return (status, events, errors, judged[0], lab(["run", "--record", "1"], script.encode())), (
+    assert (status, events, errors, judged[0], lab(["run", "--record", "1"], script.encode())) == (
         0,
         wanted,
         "",
@@ -307,8 +281,7 @@ def records_a_script():
     )
 
 
-@trial
-def traces_the_nodes_of_a_plan():
+def test_traces_the_nodes_of_a_plan() -> None:
     """Each Step of both nodes and each packet, as the debugger shows them of the record."""
     asked = ["ann config 01000703", "ann config 01010203", f"ann boot 0 {assembled('ldc 5' + chr(10) + 'stopp')}"]
     with tempfile.NamedTemporaryFile("w") as script, tempfile.NamedTemporaryFile("w") as record:
@@ -324,11 +297,10 @@ def traces_the_nodes_of_a_plan():
         ]
     whole = "".join(it for it in shown if not it.startswith("after "))
     steps = [it for it in traced[1].splitlines() if it.startswith("node ")]
-    return (traced, len(steps) > 2, refused), ((0, whole, ""), True, [2, 2, 4])
+    assert (traced, len(steps) > 2, refused) == ((0, whole, ""), True, [2, 2, 4])
 
 
-@trial
-def bounds_the_run_of_a_plan():
+def test_bounds_the_run_of_a_plan() -> None:
     """The Steps of all lines count together: each of two boots is followed by some 1,600, and a bound of 2,000 ends the run, which
     prints nothing. Without a bound the trace alone ends after 1,000 Steps."""
     booted = f"ann boot 0 {assembled(COUNTED)}\n"
@@ -338,17 +310,16 @@ def bounds_the_run_of_a_plan():
         traced = [lab(["trace", "--plan", script.name, *it]) for it in ([], ["--steps", "2000"], ["--steps", "5000"])]
     shown = [sum(it.startswith("node ") for it in out.splitlines()) for _, out, _ in traced]
     ended = "stopped after 1000 Steps. --steps N traces more"
-    return (
+    assert (
         [it[0] for it in traced],
         [it[2] for it in traced],
         shown[:2],
         shown[2] > 3200,
         traced[0][1].splitlines()[-1] == ended,
-    ), ([0, 7, 0], ["", "stopped after 2000 Steps: --steps N allows more\n", ""], [1000, 0], True, True)
+    ) == ([0, 7, 0], ["", "stopped after 2000 Steps: --steps N allows more\n", ""], [1000, 0], True, True)
 
 
-@trial
-def bounds_records():
+def test_bounds_records() -> None:
     """`why`, `film` and `debug` do a record of N Steps if they may do N, and `rows` those of its lines of several. One less ends
     them, and nothing is printed."""
     with tempfile.NamedTemporaryFile("w", suffix=".replay") as it:
@@ -367,13 +338,12 @@ def bounds_records():
             (lab([*words, it.name, "--steps", str(most)])[0], lab([*words, it.name, "--steps", str(most - 1)]))
             for words, most, _ in calls
         ]
-    return seen, [
+    assert seen == [
         (0, (7, "", f"{name}stopped after {most - 1} Steps: --steps N allows more\n")) for _, most, name in calls
     ]
 
 
-@trial
-def ends_at_ctrl_c():
+def test_ends_at_ctrl_c() -> None:
     """By the signal, and within a second: of what goes on for hours."""
     never = 10**18
     booted = f"{ONE}{JOINED}\n{boot(ENDLESS)}\n0 settle 16 100\n"
@@ -386,7 +356,7 @@ def ends_at_ctrl_c():
     seen = []
     for words, given in calls:
         going = subprocess.Popen(
-            [built("lab"), *words],
+            [LAB, *words],
             stdin=subprocess.PIPE,
             stdout=subprocess.PIPE,
             stderr=subprocess.PIPE,
@@ -400,20 +370,4 @@ def ends_at_ctrl_c():
         going.send_signal(signal.SIGINT)
         status = going.wait(timeout=20)
         seen.append((goes_on, status, time.time() - begun < 1, going.stdout.read(), going.stderr.read()))
-    return seen, [(True, -signal.SIGINT, True, b"", b"")] * len(calls)
-
-
-def main(names):
-    wrong = 0
-    for name in names or TRIALS:
-        seen, wanted = TRIALS[name]()
-        if seen != wanted:
-            wrong += 1
-            texts = [str(it).splitlines(keepends=True) for it in (wanted, seen)]
-            print(f"{name}: differs\n" + "".join(difflib.unified_diff(*texts, "expected", "printed")))
-    print(f"{len(names or TRIALS)} trials, {wrong} wrong")
-    return 1 if wrong else 0
-
-
-if __name__ == "__main__":
-    sys.exit(main(sys.argv[1:]))
+    assert seen == [(True, -signal.SIGINT, True, b"", b"")] * len(calls)

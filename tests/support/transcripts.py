@@ -1,8 +1,13 @@
-"""What a user was answered, held against the records of his domain: the replies that the records have to the events of
-each of his lines, in their order, are what he was told."""
+"""What a user was answered, held against the records of the domain: the replies that the records have to the events of
+each of the user's lines, in their order, are what was told."""
+
 import glob
 import itertools
 import re
+from collections.abc import Iterable, Sequence
+
+Event = tuple[bytes, bytes]
+Place = tuple[int, int, int]
 
 # Stands between the events of a record and those of the next.
 RESTARTED = (b"restart", b"")
@@ -19,14 +24,15 @@ class Sent:
 
     __slots__ = ("text", "answer", "loose", "is_mark")
 
-    def __init__(self, text, is_mark=False):
-        self.text, self.answer, self.loose, self.is_mark = text, None, 0, is_mark
+    def __init__(self, text: bytes, is_mark: bool = False) -> None:
+        self.text, self.loose, self.is_mark = text, 0, is_mark
+        self.answer: bytes | None = None
 
 
-def events_of(folder, name):
+def events_of(folder: str, name: str) -> list[Event]:
     """The events that a user asked for, with their replies, through all records of his domain."""
     paths = glob.glob(f"{folder}/{name}.replay") + glob.glob(f"{folder}/{name}.*.replay")
-    events = []
+    events: list[Event] = []
     for at, path in enumerate(sorted(paths, key=lambda it: int((re.findall(r"\.(\d+)\.replay$", it) or ["1"])[0]))):
         with open(path, "rb") as it:
             text = it.read().partition(b"\n---\n")[2]
@@ -36,16 +42,16 @@ def events_of(folder, name):
     return events
 
 
-def pieces(digits):
+def pieces(digits: bytes) -> list[bytes]:
     return [digits[at : at + 2] for at in range(0, len(digits), 2)]
 
 
-def turned(word):
+def turned(word: bytes) -> bytes:
     """A word's digits, the least significant byte first."""
     return b"".join(reversed(pieces(word)))
 
 
-def asked(text):
+def asked(text: bytes) -> tuple[list[bytes], Iterable[bytes]]:
     """The events that a line asks for, one after another: those by which bytes are written, and the others."""
     if not ASKING.fullmatch(text):
         return [], []
@@ -58,19 +64,19 @@ def asked(text):
         return [], itertools.repeat(b"read 0")
     if verb in (b"look", b"reset"):
         return [], [verb + b" 0"]
-    sent = {
-        b"write": lambda: words[1],
-        b"boot": lambda: b"%02x" % (len(words[1]) // 2) + words[1],
-        b"poke": lambda: b"00" + turned(words[1]) + turned(words[2]),
-        b"peek": lambda: b"01" + turned(words[1]),
-    }
-    return [b"write 0 " + it for it in pieces(sent[verb]())], [b"read 0"] * (4 * (verb == b"peek"))
+    if verb == b"write":
+        sent = words[1]
+    elif verb == b"boot":
+        sent = b"%02x" % (len(words[1]) // 2) + words[1]
+    else:
+        sent = (b"00" if verb == b"poke" else b"01") + b"".join(turned(it) for it in words[1:])
+    return [b"write 0 " + it for it in pieces(sent)], [b"read 0"] * (4 * (verb == b"peek"))
 
 
-def replies_at(text, events, at):
+def replies_at(text: bytes, events: Sequence[Event], at: int) -> tuple[list[bytes], bool]:
     """The replies to a line's events in the records from this place on, and whether they are all that it asks for.
     Nothing is written behind a byte for which there was no room, and nothing is read behind one that hadn't come."""
-    replies = []
+    replies: list[bytes] = []
     for names, last in zip(asked(text), (b"full", b"none")):
         for name in names:
             if at + len(replies) == len(events) or events[at + len(replies)][0] != name:
@@ -81,7 +87,7 @@ def replies_at(text, events, at):
     return replies, True
 
 
-def answer_of(text, replies):
+def answer_of(text: bytes, replies: list[bytes]) -> bytes:
     """The answer to a line whose events were replied to so."""
     verb = text.split(b" ")[0]
     if verb == b"config":
@@ -100,7 +106,7 @@ def answer_of(text, replies):
     return verb + b" " + told
 
 
-def reached(places, events, loose, restarts):
+def reached(places: set[Place], events: Sequence[Event], loose: Sequence[bytes], restarts: int) -> set[Place]:
     """The places that can be reached from some by lines of connections that were cut, each of which is done, in part or
     whole, or isn't, and by the operator's restarts. A place: events, such lines, and such restarts that lie behind."""
     every, new = set(places), list(places)
@@ -116,13 +122,15 @@ def reached(places, events, loose, restarts):
     return every
 
 
-def fault_of(sent, loose, events, restarts):
-    """What is wrong with a user's list: none if his records have just its lines, each with its answer and in its order,
+def fault_of(
+    sent: Sequence[Sent], loose: Sequence[bytes], events: Sequence[Event], restarts: tuple[int, int]
+) -> str | None:
+    """What is wrong with a user's list: none if the records have just its lines, each with its answer and in its order,
     lines that weren't answered in part or not at all, and between them what `reached` says. `restarts` are the
     operator's: how many were answered, and how many were sent."""
     places = {(0, 0, 0)}
     for line in sent:
-        after = set()
+        after: set[Place] = set()
         for at, passed, begun in reached(places, events, loose[: line.loose], restarts[1]):
             replies, is_whole = replies_at(line.text, events, at)
             if line.answer is None:
@@ -138,76 +146,3 @@ def fault_of(sent, loose, events, restarts):
         at = max(places)[0]
         return f"{len(events) - at} events at the end of the records were never asked for: {events[at:at + 12]}"
     return None
-
-
-# A line's answer, and the events with their replies that a record has of it, both by hand: the host has room for one
-# byte more.
-ROWS = [
-    (b"config 01000103", b"config -"),
-    (b"poke 0 80000100 12345678", b"poke 0 9"),
-    (b"rest", b"rest quiet"),
-    (b"peek 0 80000100", b"peek 0 12345678"),
-    (b"config 0200", b"config 81"),
-    (b"restart", b"restart ok"),
-    (b"look 0", b"look 0 booting overruns 0 0 0 0"),
-    (b"write 0 0102", b"write 0 1"),
-    (b"collect 0", b"collect 0 -"),
-]
-CONFIG = [(b"config %02x" % it, b"nothing") for it in (1, 0, 1, 3)]
-POKE = [(b"write 0 %02x" % it, b"written") for it in (0, 0, 1, 0, 0x80, 0x78, 0x56, 0x34, 0x12)]
-PEEK = [(b"write 0 %02x" % it, b"written") for it in (1, 0, 1, 0, 0x80)]
-PEEK += [(b"read 0", b"%02x" % it) for it in (0x78, 0x56, 0x34, 0x12)]
-LATER = [
-    (b"config 02", b"nothing"),
-    (b"config 00", b"81"),
-    RESTARTED,
-    (b"look 0", b"booting overruns 0 0 0 0"),
-    (b"write 0 01", b"written"),
-    (b"write 0 02", b"full"),
-    (b"read 0", b"none"),
-]
-EVENTS = CONFIG + POKE + PEEK + LATER
-OTHER = {b"written": b"full", b"full": b"written", b"nothing": b"badport", b"12": b"13"}
-
-
-def with_mistakes():
-    """The list and its records with one mistake in each way."""
-    for at, (event, reply) in enumerate(EVENTS):
-        yield ROWS, EVENTS[:at] + EVENTS[at + 1 :], (0, 0)
-        yield ROWS, [*EVENTS[:at], EVENTS[at], *EVENTS[at:]], (0, 0)
-        # whether there was room for the last byte of a peek's message no answer says: lab rows does
-        if event != RESTARTED[0] and at != len(CONFIG + POKE) + 4:
-            yield ROWS, [*EVENTS[:at], (event, OTHER.get(reply, b"12")), *EVENTS[at + 1 :]], (0, 0)
-    for at, (text, answer) in enumerate(ROWS):
-        if text != b"rest":
-            yield [*ROWS[:at], (text, answer[:-1] + b"?"), *ROWS[at + 1 :]], EVENTS, (0, 0)
-            yield ROWS[:at] + ROWS[at + 1 :], EVENTS, (0, 0)
-    yield [ROWS[1], ROWS[0], *ROWS[2:]], EVENTS, (0, 0)
-    yield ROWS, EVENTS, (1, 1)
-
-
-def without_mistakes():
-    """The list and its records, with lines that weren't answered and are there in whole, in part or not at all, and
-    with a restart that is the operator's."""
-    lost, restarted = [ROWS[0], (ROWS[1][0], None), *ROWS[2:]], [*ROWS[:5], *ROWS[6:]]
-    yield ROWS, EVENTS, (0, 0)
-    for length in range(len(POKE) + 1):
-        yield lost, CONFIG + POKE[:length] + PEEK + LATER, (0, 0)
-    for answered in (0, 1):
-        yield restarted, EVENTS, (answered, 1)
-
-
-def mistakes_are_seen(*_):
-    """The comparison of the soak itself: it finds nothing wrong with a list and its records, and each of many
-    mistakes."""
-    counts = []
-    for is_right, trials in ((True, without_mistakes()), (False, with_mistakes())):
-        counts.append(0)
-        for rows, events, restarts in trials:
-            counts[-1] += 1
-            lines = [Sent(text) for text, _ in rows]
-            for line, (_, answer) in zip(lines, rows):
-                line.answer = answer
-            if (fault_of(lines, [], events, restarts) is None) != is_right:
-                raise AssertionError(f"the comparison is wrong of {rows}, {events}, {restarts}")
-    return f"{counts[0]} lists without a mistake, and {counts[1]} with one"

@@ -1,9 +1,8 @@
-"""Sixteen users at a served farm for some minutes: random lines, floods, cuts, restarts, and kills of `live` and of
-`serve`. Each user keeps a list of what he sent and what he was told; at the end it is held against the records, which
-`lab rows` does again."""
+"""Sixteen users at a served farm for some minutes: random lines, floods, cuts, restarts, and kills of `live` and of `serve`. Each
+user keeps a list of what was sent and what was told; at the end it is held against the records, which `lab rows` does again."""
+
 import collections
 import glob
-import os
 import queue
 import random
 import re
@@ -11,9 +10,10 @@ import subprocess
 import threading
 import time
 
-from serving_trials import Client, Served, plan_of_users
-from serving_transcripts import Sent, events_of, fault_of
-from trials import built
+import pytest
+from support.serving_trials import Client, Served, plan_of_users
+from support.transcripts import RESTARTED, Sent, events_of, fault_of
+from support.trials import LAB
 
 USERS = 16
 FIRST, WORDS = 0x80000100, 48
@@ -279,9 +279,7 @@ def wrong_rows(records):
     """How many rows the records have, and what `lab rows` finds wrong there."""
     paths, rows, faults = sorted(glob.glob(f"{records}/*.replay")), 0, []
     for at in range(0, len(paths), 100):
-        told = subprocess.run(
-            [built("lab"), "rows", *paths[at : at + 100]], capture_output=True, encoding="utf-8", check=False
-        )
+        told = subprocess.run([LAB, "rows", *paths[at : at + 100]], capture_output=True, encoding="utf-8", check=False)
         rows += sum(int(it) for it in re.findall(r": (\d+) rows, ", told.stdout))
         faults += [it for it in told.stdout.splitlines() if not it.endswith(", 0 wrong")]
         # a record that begins with a restart may have no events yet
@@ -291,33 +289,93 @@ def wrong_rows(records):
     return rows, faults, len(paths)
 
 
-def soak(live, minutes, seed):
-    """Runs the users, prints what was compared, and is 1 if something was wrong."""
-    chance = random.Random(seed)
-    with Served(live, plan_of_users([f"user-{it}" for it in range(USERS)])) as served:
+@pytest.mark.long
+def test_soak(minutes: float, seed: int) -> None:
+    names = [f"user-{it}" for it in range(USERS)]
+    with Served(plan_of_users(names)) as served:
         users = [User(served, it, seed) for it in range(USERS)]
         end = time.monotonic() + 60 * minutes
         operator = Operator(served, random.Random(f"{seed} operator"), end)
         threads = [operator, *(threading.Thread(target=user.run, args=(end,)) for user in users)]
         for thread in threads:
             thread.start()
-        kills = kill_till(served, end, chance)
+        kill_till(served, end, random.Random(seed))
         for thread in threads:
             thread.join()
         time.sleep(2)
-        status, errors = served.stop(PATIENCE)
+        assert served.stop(PATIENCE)[0] == 0
         records = f"{served.folder}/records"
-        size = sum(it.stat().st_size for it in os.scandir(records))
         events = sum(it.compare(records, (operator.answered[it.name], operator.asked[it.name])) for it in users)
-        rows, faults, files = wrong_rows(records)
-    faults += operator.faults + [fault for user in users for fault in user.faults]
-    faults += [f"serve: {status}: {errors}"] if status else []
-    print("\n".join(faults[:50]))
-    counts = {it: sum(getattr(user, it) for user in users) for it in ("heard", "lost", "cuts", "floods", "restarts")}
-    print(
-        f"{counts['heard']} answers, {counts['lost']} lines told as not answered, {counts['cuts']} cuts, "
-        f"{counts['floods']} floods, {kills['live']} kills of live and {kills['serve']} of serve, "
-        f"{counts['restarts']} restarts by users and {operator.answered.total()} by the operator; {events} events of "
-        f"users and {rows} rows in {files} records of {size / 1e6:.0f} MB compared, {len(faults)} wrong"
-    )
-    return 1 if faults else 0
+        rows, faults, _ = wrong_rows(records)
+    assert faults + operator.faults + [fault for user in users for fault in user.faults] == []
+    assert min(user.heard for user in users) > 0
+    assert 0 < events <= rows
+
+
+# A line's answer, and the events with their replies that a record has of it, both by hand: the host has room for one
+# byte more.
+ROWS = [
+    (b"config 01000103", b"config -"),
+    (b"poke 0 80000100 12345678", b"poke 0 9"),
+    (b"rest", b"rest quiet"),
+    (b"peek 0 80000100", b"peek 0 12345678"),
+    (b"config 0200", b"config 81"),
+    (b"restart", b"restart ok"),
+    (b"look 0", b"look 0 booting overruns 0 0 0 0"),
+    (b"write 0 0102", b"write 0 1"),
+    (b"collect 0", b"collect 0 -"),
+]
+CONFIG = [(b"config %02x" % it, b"nothing") for it in (1, 0, 1, 3)]
+POKE = [(b"write 0 %02x" % it, b"written") for it in (0, 0, 1, 0, 0x80, 0x78, 0x56, 0x34, 0x12)]
+PEEK = [(b"write 0 %02x" % it, b"written") for it in (1, 0, 1, 0, 0x80)]
+PEEK += [(b"read 0", b"%02x" % it) for it in (0x78, 0x56, 0x34, 0x12)]
+LATER = [
+    (b"config 02", b"nothing"),
+    (b"config 00", b"81"),
+    RESTARTED,
+    (b"look 0", b"booting overruns 0 0 0 0"),
+    (b"write 0 01", b"written"),
+    (b"write 0 02", b"full"),
+    (b"read 0", b"none"),
+]
+EVENTS = CONFIG + POKE + PEEK + LATER
+OTHER = {b"written": b"full", b"full": b"written", b"nothing": b"badport", b"12": b"13"}
+
+
+def with_mistakes():
+    """The list and its records with one mistake in each way."""
+    for at, (event, reply) in enumerate(EVENTS):
+        yield ROWS, EVENTS[:at] + EVENTS[at + 1 :], (0, 0)
+        yield ROWS, [*EVENTS[:at], EVENTS[at], *EVENTS[at:]], (0, 0)
+        # whether there was room for the last byte of a peek's message no answer says: lab rows does
+        if event != RESTARTED[0] and at != len(CONFIG + POKE) + 4:
+            yield ROWS, [*EVENTS[:at], (event, OTHER.get(reply, b"12")), *EVENTS[at + 1 :]], (0, 0)
+    for at, (text, answer) in enumerate(ROWS):
+        if text != b"rest":
+            yield [*ROWS[:at], (text, answer[:-1] + b"?"), *ROWS[at + 1 :]], EVENTS, (0, 0)
+            yield ROWS[:at] + ROWS[at + 1 :], EVENTS, (0, 0)
+    yield [ROWS[1], ROWS[0], *ROWS[2:]], EVENTS, (0, 0)
+    yield ROWS, EVENTS, (1, 1)
+
+
+def without_mistakes():
+    """The list and its records, with lines that weren't answered and are there in whole, in part or not at all, and
+    with a restart that is the operator's."""
+    lost, restarted = [ROWS[0], (ROWS[1][0], None), *ROWS[2:]], [*ROWS[:5], *ROWS[6:]]
+    yield ROWS, EVENTS, (0, 0)
+    for length in range(len(POKE) + 1):
+        yield lost, CONFIG + POKE[:length] + PEEK + LATER, (0, 0)
+    for answered in (0, 1):
+        yield restarted, EVENTS, (answered, 1)
+
+
+@pytest.mark.parametrize("is_right", [True, False])
+def test_the_comparison(is_right: bool) -> None:
+    """The comparison of the soak finds nothing wrong with a list and its records, and each of many mistakes."""
+    cases = list(without_mistakes() if is_right else with_mistakes())
+    assert len(cases) == (13 if is_right else 103)
+    for rows, events, restarts in cases:
+        lines = [Sent(text) for text, _ in rows]
+        for line, (_, answer) in zip(lines, rows):
+            line.answer = answer
+        assert (fault_of(lines, [], events, restarts) is None) == is_right, f"{rows}, {events}, {restarts}"

@@ -1,19 +1,14 @@
-#!/usr/bin/env -S python3 -B
-"""Tries `lab why`: for each sentence a record that leads there, made of a small program and the events that load and run it, and
+"""`lab why`: for each sentence a record that leads there, made of a small program and the events that load and run it, and
 what is to be printed, worked by hand from docs/LAB.md, docs/PROCESSOR.md and docs/NODE.md.
-
-usage: tests/why [TRIAL ..]    all trials if none is named
-
 The events of a trial stand in the lines of `lab replay`; those that it recorded, as its line `0 journal` shows them, are the
-record. Where a sentence has the number of an event, {lost}, {fault} and the like are counted in that record by this script.
-What differs is printed, and at the end how many trials are as expected. The status is 1 if one isn't. It takes some seconds."""
-import difflib
+record. Where a sentence has the number of an event, {lost}, {fault} and the like are counted in that record here."""
+
 import os
 import re
-import sys
 import tempfile
 
-from recorded import JOINED, ONE, SETTLE, TWO, assembled, boot, by_hand, lab, recorded
+from support.recorded import JOINED, ONE, SETTLE, TWO, assembled, boot, by_hand, lab, recorded
+from support.trials import put
 
 # Waits for a byte of link 0, and then sends one there: in stands at 8000004e, outbyte at 80000053.
 REPLY = """
@@ -187,23 +182,13 @@ def why(record, at=None, programs=()):
     """Status, standard output and standard error of `lab why`; `programs` are pairs of a file's name and its text, that of node 0 first."""
     with tempfile.TemporaryDirectory() as folder:
         path = os.path.join(folder, "ann.replay")
-        with open(path, "w", encoding="utf-8") as it:
-            it.write(record)
+        put(path, record)
         words = [] if at is None else ["--at", str(at)]
         for number, (name, text) in enumerate(programs):
-            with open(os.path.join(folder, name), "w", encoding="utf-8") as it:
-                it.write(text)
+            put(os.path.join(folder, name), text)
             words += ["--program", str(number), os.path.join(folder, name)]
         status, out, errors = lab(["why", path, *words])
         return status, out, errors.replace(folder, "FOLDER")
-
-
-TRIALS = {}
-
-
-def trial(function):
-    TRIALS[function.__name__] = function
-    return function
 
 
 def told(record, at=None, programs=()):
@@ -218,438 +203,372 @@ def told(record, at=None, programs=()):
     return rest
 
 
-@trial
-def nothing_is_joined():
-    return (
-        told(recorded(ONE, [])),
+NOTHING_WAITS = """node 0 waits for a control byte.
+  Input 7 drives output 0 of link 0. Of host 0 nothing waits there.
+"""
+
+
+def test_nothing_is_joined() -> None:
+    assert told(recorded(ONE, [])) == (
         """node 0 waits for a control byte.
   No byte comes by link 0: no input drives output 0.
-""",
+"""
     )
 
 
-@trial
-def host_has_nothing():
-    return (
-        told(recorded(ONE, [JOINED])),
-        """node 0 waits for a control byte.
-  Input 7 drives output 0 of link 0. Of host 0 nothing waits there.
-""",
-    )
+def test_host_has_nothing() -> None:
+    assert told(recorded(ONE, [JOINED])) == NOTHING_WAITS
 
 
-@trial
-def no_ready():
-    return (
-        told(recorded(ONE, ["0 configs 010007", boot(END), SETTLE])),
+def test_no_ready() -> None:
+    assert told(recorded(ONE, ["0 configs 010007", boot(END), SETTLE])) == (
         """node 0 waits for a control byte.
   Input 7 drives output 0 of link 0. Byte 03 of host 0 waits there, and stays there: an output that input 7 drives isn't \
 ready. Message 03 makes it ready.
-""",
+"""
     )
 
 
-@trial
-def wrong_port():
+def test_wrong_port() -> None:
     """Port 1 is joined in place of port 0: the host's byte goes to an output without a device."""
-    return (
-        told(recorded(ONE, ["0 configs 01010703", boot(END), SETTLE])),
+    assert told(recorded(ONE, ["0 configs 01010703", boot(END), SETTLE])) == (
         """node 0 waits for a control byte.
   No byte comes by link 0: no input drives output 0.
-""",
+"""
     )
 
 
-@trial
-def peek_half_read():
-    return (
-        told(recorded(ONE, [JOINED, "0 writes 0 014800", SETTLE])),
+def test_peek_half_read() -> None:
+    assert told(recorded(ONE, [JOINED, "0 writes 0 014800", SETTLE])) == (
         """node 0 takes a peek by link 0: 2 of 4 bytes have come.
   Input 7 drives output 0 of link 0. Of host 0 nothing waits there.
-""",
+"""
     )
 
 
-@trial
-def poke_half_read():
-    return (
-        told(recorded(ONE, [JOINED, "0 writes 0 004800008011", SETTLE])),
+def test_poke_half_read() -> None:
+    assert told(recorded(ONE, [JOINED, "0 writes 0 004800008011", SETTLE])) == (
         """node 0 takes a poke by link 0: 5 of 8 bytes \
 have come.
   Input 7 drives output 0 of link 0. Of host 0 nothing waits there.
-""",
+"""
     )
 
 
-@trial
-def step_takes_a_byte():
+def test_step_takes_a_byte() -> None:
     """The byte of the host was moved, and no Step has come."""
-    return (
-        told(recorded(ONE, [JOINED, "0 write 0 02", "0 move 7"])),
+    assert told(recorded(ONE, [JOINED, "0 write 0 02", "0 move 7"])) == (
         """node 0 waits for a control byte, and its next Step \
 takes one.
-""",
+"""
     )
 
 
-@trial
-def code_byte_taken_as_a_length():
+def test_code_byte_taken_as_a_length() -> None:
     """The program without the number of its bytes: ajw 4 is b4, which asks for 180 bytes, and 3 of them come."""
-    return (
-        told(recorded(ONE, [JOINED, f"0 writes 0 {assembled(END)}", SETTLE])),
+    assert told(recorded(ONE, [JOINED, f"0 writes 0 {assembled(END)}", SETTLE])) == (
         """node 0 takes code by link 0: 2 of 180 \
 bytes have come, as the control byte b4 asks.
   Input 7 drives output 0 of link 0. Of host 0 nothing waits there.
-""",
+"""
     )
 
 
-@trial
-def one_direction():
+def test_one_direction() -> None:
     """The host's input drives the node's output, and nothing drives the way back, so that the acknowledge is lost."""
     record = recorded(ONE, ["0 configs 00070003", boot(END), SETTLE])
     lost = Counted(record).last("move 0 .*lost")
-    return (
-        told(record),
+    assert told(record) == (
         f"""node 0 takes code by link 0: 0 of 3 bytes have come, as the control byte 03 asks.
   Input 7 drives output 0 of link 0. Of host 0 a byte isn't acknowledged yet.
   At output 0 link 0 of node 0 took the byte, but its acknowledge was lost in event {lost}, as input 0 drove no output.
-""",
+"""
     )
 
 
-@trial
-def sent_before_it_was_joined():
+def test_sent_before_it_was_joined() -> None:
     """The host's byte left for nowhere, and then the way was made."""
     record = recorded(ONE, [boot(END), SETTLE, JOINED, SETTLE])
     lost = Counted(record).last("move 7 .*lost")
-    return (
-        told(record),
+    assert told(record) == (
         f"""node 0 waits for a control byte.
   Input 7 drives output 0 of link 0. Of host 0 a byte isn't acknowledged yet.
   The byte was lost in event {lost}, as input 7 drove no output.
-""",
+"""
     )
 
 
-@trial
-def booted_without_a_reset():
+def test_booted_without_a_reset() -> None:
     """The second boot's first byte comes to a node that has ended."""
-    return (
-        told(recorded(ONE, [JOINED, boot(END), SETTLE, boot(END), SETTLE])),
+    assert told(recorded(ONE, [JOINED, boot(END), SETTLE, boot(END), SETTLE])) == (
         """node 0 has ended: no process is left.
   Link 0 holds a byte that nobody will take: reset the node before you boot it again.
-""",
+"""
     )
 
 
-@trial
-def reset_took_a_byte():
+def test_reset_took_a_byte() -> None:
     """The same, and then a reset, by which that byte is gone."""
-    return (
-        told(recorded(ONE, [JOINED, boot(END), SETTLE, boot(END), SETTLE, "0 reset 0", SETTLE])),
+    assert told(recorded(ONE, [JOINED, boot(END), SETTLE, boot(END), SETTLE, "0 reset 0", SETTLE])) == (
         """node 0 waits for a control \
 byte.
   Input 7 drives output 0 of link 0. Of host 0 a byte isn't acknowledged yet.
   At output 0 link 0 of node 0 has neither the byte nor an acknowledge of it.
-""",
+"""
     )
 
 
-@trial
-def answer_of_a_peek():
+def test_answer_of_a_peek() -> None:
     """Three bytes of the address have come when the way back is cut. The fourth is answered by a byte that is lost."""
     record = recorded(ONE, [JOINED, "0 writes 0 01480000", SETTLE, "0 configs 0507", "0 write 0 80", SETTLE])
     lost = Counted(record).last("move 0 .*lost")
-    return (
-        told(record),
+    assert told(record) == (
         f"""node 0 answers a peek by link 0: 3 bytes more are to be sent when the last one is acknowledged.
   The byte was lost in event {lost}, as input 0 drove no output.
-""",
+"""
     )
 
 
-@trial
-def ended():
-    return told(recorded(ONE, [JOINED, boot(END), SETTLE])), "node 0 has ended: no process is left.\n"
+def test_ended() -> None:
+    assert told(recorded(ONE, [JOINED, boot(END), SETTLE])) == "node 0 has ended: no process is left.\n"
 
 
-@trial
-def waits_for_four_bytes():
+def test_waits_for_four_bytes() -> None:
     program = "ajw 4\nldlp 1\nmint\nldnlp 4\nldc 4\nin\nstopp"
-    return (
-        told(recorded(ONE, [JOINED, boot(program), SETTLE, "0 write 0 07", SETTLE])),
+    assert told(recorded(ONE, [JOINED, boot(program), SETTLE, "0 write 0 07", SETTLE])) == (
         """node 0 rests.
   The process at 8000004e waits in `in` for 4 bytes of link 0, of which 1 came.
   Input 7 drives output 0 of link 0. Of host 0 nothing waits there.
-""",
+"""
     )
 
 
-@trial
-def link_without_a_port():
-    return (
-        told(recorded(ONE, [JOINED, boot(SEND_BY_ONE.format(42)), SETTLE])),
+def test_link_without_a_port() -> None:
+    assert told(recorded(ONE, [JOINED, boot(SEND_BY_ONE.format(42)), SETTLE])) == (
         """node 0 rests.
   The process at 8000004e waits in `outbyte` until a byte of link 1 is acknowledged.
   The byte stays: no port of the switch is joined to that link.
-""",
+"""
     )
 
 
-@trial
-def lost_byte():
+def test_lost_byte() -> None:
     """The way back is cut while the program waits for its byte."""
     record = recorded(ONE, [JOINED, boot(REPLY), SETTLE, "0 configs 0507", "0 write 0 05", SETTLE])
     lost = Counted(record).last("move 0 .*lost")
-    return (
-        told(record),
+    assert told(record) == (
         f"""node 0 rests.
   The process at 80000053 waits in `outbyte` until a byte of link 0 is acknowledged.
   The byte was lost in event {lost}, as input 0 drove no output.
-""",
+"""
     )
 
 
-@trial
-def byte_that_stays():
+def test_byte_that_stays() -> None:
     """The way back is made anew, and isn't ready: the acknowledge waits there, and the byte behind it."""
     record = recorded(ONE, [JOINED, boot(REPLY), SETTLE, "0 configs 050700000707", "0 write 0 05", SETTLE])
-    return (
-        told(record),
+    assert told(record) == (
         """node 0 rests.
   The process at 80000053 waits in `outbyte` until a byte of link 0 is acknowledged.
   The byte waits at port 0, and stays there: an output that input 0 drives isn't ready. Message 03 makes it ready.
-""",
+"""
     )
 
 
-@trial
-def byte_that_nobody_takes():
+def test_byte_that_nobody_takes() -> None:
     """Node 1 has ended, and its link 0 keeps the byte that node 0 sends by link 1."""
     lines = ["0 configs 01020703", boot(END), SETTLE, "0 configs 0502050701000701010203"]
-    return (
-        told(recorded(TWO, [*lines, boot(SEND_BY_ONE.format(42)), SETTLE])),
+    assert told(recorded(TWO, [*lines, boot(SEND_BY_ONE.format(42)), SETTLE])) == (
         """node 0 rests.
   The process at 8000004e waits in `outbyte` until a byte of link 1 is acknowledged.
   At output 2 link 0 of node 1 holds a byte that nobody has taken.
 node 1 has ended: no process is left.
   Link 0 holds a byte that nobody will take: reset the node before you boot it again.
-""",
+"""
     )
 
 
-@trial
-def full_queue():
+def test_full_queue() -> None:
     """The host takes 4,096 bytes and holds one more. outbyte stands at 8000004c."""
-    return (
-        told(recorded(ONE, [JOINED, boot(FLOOD), "0 settle 256 20000"])),
+    assert told(recorded(ONE, [JOINED, boot(FLOOD), "0 settle 256 20000"])) == (
         """node 0 rests.
   The process at 8000004c waits in `outbyte` until a byte of link 0 is acknowledged.
   At output 7 host 0 holds a byte, as its queue is full: it is to be read.
-""",
+"""
     )
 
 
-@trial
-def deadlock():
+def test_deadlock() -> None:
     """The code has 10 bytes, so W is 80000054, and 80000074 behind ajw 8: the channel is at 80000078. in stands at 8000004f."""
-    return (
-        told(recorded(ONE, [JOINED, boot(WAIT_INSIDE), SETTLE])),
+    assert told(recorded(ONE, [JOINED, boot(WAIT_INSIDE), SETTLE])) == (
         """node 0 rests.
   The process at 8000004f waits in `in` at channel 80000078 in its memory.
   No other process is left that could come there: a deadlock.
-""",
+"""
     )
 
 
-@trial
-def two_that_wait_for_each_other():
+def test_two_that_wait_for_each_other() -> None:
     """W is {w:08x} and the second process's 32 below; their channels are at W plus 4 and at W plus 8."""
     code = assembled(CROSSED)
     size, first = len(code) // 2, code.index("f7") // 2
     start = 0x80000048
     w = (start + size + 3) // 4 * 4 + 64
     last = size - 3
-    return (
-        told(recorded(ONE, [JOINED, boot(CROSSED), SETTLE])),
+    assert told(recorded(ONE, [JOINED, boot(CROSSED), SETTLE])) == (
         f"""node 0 rests.
   The process at {start + first:08x} waits in `in` at channel {w + 4:08x} in its memory.
   The process at {start + last:08x} waits in `out` at channel {w + 8:08x} in its memory.
   No other process is left that could come there: a deadlock.
-""",
+"""
     )
 
 
-@trial
-def alternative():
+def test_alternative() -> None:
     """altwt is 24 f4, of which f4 stands at 80000052."""
-    return (
-        told(recorded(ONE, [JOINED, boot(ALTERNATIVE), SETTLE])),
+    assert told(recorded(ONE, [JOINED, boot(ALTERNATIVE), SETTLE])) == (
         """node 0 rests.
   The process at 80000052 waits in an alternative for a byte of link 0.
   Input 7 drives output 0 of link 0. Of host 0 nothing waits there.
-""",
+"""
     )
 
 
-@trial
-def wrong_pointer():
+def test_wrong_pointer() -> None:
     """The code b4 40 30 ends at 8000004b, so W is 8000004c, and 8000005c behind ajw 4. Of the registers C alone wasn't 0: it was
     the address of the boot link's channel, and ldc 0 moves B there."""
     record = recorded(ONE, [JOINED, boot("ajw 4\nldc 0\nldnl 0"), SETTLE])
     fault = Counted(record).last("step 0 .*fault 1")
-    return (
-        told(record),
+    assert told(record) == (
         f"""node 0 halted by fault 1 in event {fault}: an address lies outside memory.
   It was at 8000004a in `ldnl 0`, with A 00000000, B 00000000, C 00000000, W 8000005c and Error 0.
-""",
+"""
     )
 
 
-@trial
-def unknown_operation():
+def test_unknown_operation() -> None:
     """21 f1 is operation 11, which isn't in the table; A and B are 0 from the boot, and C is 80000010. W is 8000004c."""
     record = recorded(ONE, [JOINED, "0 writes 0 0221f1", SETTLE])
     fault = Counted(record).last("step 0 .*fault 2 11")
-    return (
-        told(record),
+    assert told(record) == (
         f"""node 0 halted by fault 2 in event {fault}: there is no operation 11.
   It was at 80000049 in `opr 17`, with A 00000000, B 00000000, C 80000010, W 8000004c and Error 0.
   Its workspace 8000004c begins where its code ends, so what is saved below it overwrites the code: ajw moves it.
-""",
+"""
     )
 
 
-@trial
-def error_flag():
+def test_error_flag() -> None:
     """21 f0 is seterr, which sets Error, since HaltOnError is clear; 21 f1 is operation 11. The code ends at 8000004d, so W is
     80000050, and 80000060 behind ajw 4."""
     record = recorded(ONE, [JOINED, "0 writes 0 05b421f021f1", SETTLE])
     fault = Counted(record).last("step 0 .*fault 2 11")
-    return (
-        told(record),
+    assert told(record) == (
         f"""node 0 halted by fault 2 in event {fault}: there is no operation 11.
   It was at 8000004c in `opr 17`, with A 00000000, B 00000000, C 80000010, W 80000060 and Error 1.
-""",
+"""
     )
 
 
-@trial
-def ran_through_zeros():
+def test_ran_through_zeros() -> None:
     """The jump goes to 8000004c in place of 8000004a: 01 moves Iptr by 1 behind 8000004b. From there to the end of memory, 80001000,
     each byte is 0. W is 8000004c, and 8000005c behind ajw 4. Each 1,024 bytes of code the process has its slice, and
     A is 0 then."""
     record = recorded(ONE, [JOINED, boot("ajw 4\nldc 7\nj 1"), SETTLE])
     fault = Counted(record).last("step 0 .*fault 1")
-    return (
-        told(record),
+    assert told(record) == (
         f"""node 0 halted by fault 1 in event {fault}: an address lies outside memory.
   It was at 80001000, with A 00000000, B 00000000, C 00000000, W 8000005c and Error 0.
   Before that it ran through zeros, each of which is `j 0`, from 8000004c on. It came there from 8000004a in `j 1`.
-""",
+"""
     )
 
 
-@trial
-def jumped_outside_of_memory():
+def test_jumped_outside_of_memory() -> None:
     """gcall goes to A, 0, where there is no memory: no zeros are run through."""
     record = recorded(ONE, [JOINED, boot("ajw 4\nldc 0\ngcall"), SETTLE])
     fault = Counted(record).last("step 0 .*fault 1")
-    return (
-        told(record),
+    assert told(record) == (
         f"""node 0 halted by fault 1 in event {fault}: an address lies outside memory.
   It was at 00000000, with A 8000004b, B 00000000, C 00000000, W 8000005c and Error 0.
-""",
+"""
     )
 
 
-@trial
-def join_that_waits():
+def test_join_that_waits() -> None:
     """Two processes end, and three are counted. endp is f3. W is where the code ends, and 64 more behind ajw 16."""
     code = assembled(JOIN.format(3))
     w = (0x80000048 + len(code) // 2 + 3) // 4 * 4 + 64
     ended = [0x80000048 + at // 2 for at in range(0, len(code), 2) if code[at : at + 2] == "f3"]
-    return (
-        told(recorded(ONE, [JOINED, boot(JOIN.format(3)), SETTLE])),
+    assert told(recorded(ONE, [JOINED, boot(JOIN.format(3)), SETTLE])) == (
         f"""node 0 has ended: no process is left.
   The last process ended by `endp` at {ended[1]:08x}. The join at workspace {w:08x} still waits for 1 more.
-""",
+"""
     )
 
 
-@trial
-def join_that_is_complete():
+def test_join_that_is_complete() -> None:
     """The same, and two are counted: the join goes on, and stops."""
-    return told(recorded(ONE, [JOINED, boot(JOIN.format(2)), SETTLE])), "node 0 has ended: no process is left.\n"
+    assert told(recorded(ONE, [JOINED, boot(JOIN.format(2)), SETTLE])) == "node 0 has ended: no process is left.\n"
 
 
-@trial
-def input_has_more_than_output():
+def test_input_has_more_than_output() -> None:
     """Node 0 sends four bytes by link 1, and node 1 waits for 16 of its link 0. in stands at 8000004f, as ldc 16 has two bytes."""
     lines = ["0 configs 01020703", boot(TAKE.format(16)), SETTLE, "0 configs 0502050701000701010203"]
-    return (
-        told(recorded(TWO, [*lines, boot(GIVE.format(4)), SETTLE])),
+    assert told(recorded(TWO, [*lines, boot(GIVE.format(4)), SETTLE])) == (
         """node 0 has ended: no process is left.
 node 1 rests.
   The process at 8000004f waits in `in` for 16 bytes of link 0, of which 4 came.
   Input 1 drives output 2 of link 0. Of link 1 of node 0 nothing waits there.
   The counts differ: the last output of link 1 of node 0 has 4 bytes, all of which came, and this `in` has 16 bytes, of which 12 are \
 still to come.
-""",
+"""
     )
 
 
-@trial
-def output_has_more_than_input():
+def test_output_has_more_than_input() -> None:
     """Node 0 sends 16 bytes, and node 1 takes 4 of them. The fifth stays in the buffer there, and 11 are behind it. out stands at
     8000004f."""
     lines = ["0 configs 01020703", boot(TAKE.format(4)), SETTLE, "0 configs 0502050701000701010203"]
-    return (
-        told(recorded(TWO, [*lines, boot(GIVE.format(16)), SETTLE])),
+    assert told(recorded(TWO, [*lines, boot(GIVE.format(16)), SETTLE])) == (
         """node 0 rests.
   The process at 8000004f waits in `out` until a byte of link 1 is acknowledged, with 4 bytes before it and 11 bytes behind it.
   At output 2 link 0 of node 1 holds a byte that nobody has taken.
 node 1 has ended: no process is left.
   Link 0 holds a byte that nobody will take: reset the node before you boot it again.
-""",
+"""
     )
 
 
-@trial
-def forgotten_ajw():
+def test_forgotten_ajw() -> None:
     """The code has 8 bytes, so that it ends at 80000050, where W is: the word at 8000004c, which has the end of the code, becomes
     the address at which the process goes on. That overwrites outbyte too, so its name can't be told."""
     program = "mint\nldnlp 1\nldc 42\noutbyte\nstopp"
-    return (
-        told(recorded(ONE, [JOINED, boot(program), SETTLE])),
+    assert told(recorded(ONE, [JOINED, boot(program), SETTLE])) == (
         """node 0 rests.
   The process at 8000004d waits until a byte of link 1 is acknowledged.
   Its workspace 80000050 begins where its code ends, so what is saved below it overwrites the code: ajw moves it.
   The byte stays: no port of the switch is joined to that link.
-""",
+"""
     )
 
 
-@trial
-def runs():
+def test_runs() -> None:
     """Behind ajw the bytes at 80000049 and 8000004a, nfix 0 and j -2, are done in turn. 4 Steps take the boot message."""
     record = recorded(ONE, [JOINED, boot("ajw 4\nloop: j loop"), SETTLE, "200000 times 0 step 0"])
     counted = Counted(record)
     steps = counted.behind(counted.last("move"), "step")
     done = counted.behind(0, "step") - 4
     here = "80000049 in `nfix 0`" if done % 2 == 1 else "8000004a in `j -2`"
-    return (
-        told(record),
+    assert told(record) == (
         f"""node 0 runs, {steps} Steps since a packet came or went.
   It is at {here}.
   It may run for ever.
-""",
+"""
     )
 
 
-@trial
-def endless_exchange():
+def test_endless_exchange() -> None:
     """Two nodes that give one byte back and forth. The last packet of the host is the last acknowledge of the boots."""
     first = "ajw 4\nmint\nldnlp 1\nldc 9\noutbyte\n" + BACK
     lines = [
@@ -669,39 +588,34 @@ def endless_exchange():
         f"Since event {alone} the nodes have passed {packets} packets to one another, and no byte came from a host or went "
         "to one: it may go on for ever.\n"
     )
-    return (out.splitlines(keepends=True)[-1] if status == 0 else errors), wanted
+    assert (out.splitlines(keepends=True)[-1] if status == 0 else errors) == wanted
 
 
-@trial
-def overrun():
+def test_overrun() -> None:
     """One input drives the outputs of two nodes, of which one has ended: it keeps the first byte, and drops the others, as the
     acknowledges of the other node let the host go on."""
     lines = ["0 configs 01020703", boot(END), SETTLE, "0 configs 050201000700070203", boot(END), SETTLE]
-    return (
-        told(recorded(TWO, lines)),
+    assert told(recorded(TWO, lines)) == (
         """node 0 has ended: no process is left.
 node 1 has ended: no process is left.
   Link 0 holds a byte that nobody will take: reset the node before you boot it again.
   Link 0 dropped 3 bytes that came while its buffer was full.
-""",
+"""
     )
 
 
-@trial
-def byte_taken_as_a_boot():
+def test_byte_taken_as_a_boot() -> None:
     """Node 0 sends 05 to node 1, which wasn't booted."""
     lines = ["0 configs 010007", "0 configs 01010203", boot(SEND_BY_ONE.format(5)), SETTLE]
-    return (
-        told(recorded(TWO, lines)),
+    assert told(recorded(TWO, lines)) == (
         """node 0 has ended: no process is left.
 node 1 takes code by link 0: 0 of 5 bytes have come, as the control byte 05 asks.
   Input 1 drives output 2 of link 0. Of link 1 of node 0 nothing waits there.
-""",
+"""
     )
 
 
-@trial
-def beginnings():
+def test_beginnings() -> None:
     """After each number of events `--at` tells what a record cut there tells."""
     record = recorded(ONE, [JOINED, boot(REPLY), SETTLE, "0 write 0 05", SETTLE])
     head, lines = record.split("---\n")
@@ -710,11 +624,10 @@ def beginnings():
         count += int(line.split()[0]) if " times " in line else 1
         cut = head + "---\n" + "".join(lines.splitlines(keepends=True)[:number])
         seen.append(why(record, count) == why(cut))
-    return f"{all(seen)} {why(record, 10**9) == why(record)}", "True True"
+    assert f"{all(seen)} {why(record, 10**9) == why(record)}" == "True True"
 
 
-@trial
-def within_a_line():
+def test_within_a_line() -> None:
     """At the first of the Steps that stand in one line: of `ajw 4` and the bytes behind it one is done."""
     record = recorded(ONE, [JOINED, boot("ajw 4\nloop: j loop"), "0 settle 256 4", "1000 times 0 step 0"])
     counted = Counted(record)
@@ -722,11 +635,10 @@ def within_a_line():
     loaded = counted.behind(0, "step") - counted.behind(moved, "step") - 4
     done = loaded + 10
     here = "80000048 in `ajw 4`" if done == 0 else ("80000049 in `nfix 0`" if done % 2 == 1 else "8000004a in `j -2`")
-    return (
-        told(record, moved + 10),
+    assert told(record, moved + 10) == (
         f"""node 0 runs, 10 Steps since a packet came or went.
   It is at {here}.
-""",
+"""
     )
 
 
@@ -735,8 +647,7 @@ def loaded(code):
     return f"0 writes 0 {len(code) // 2:02x}{code}"
 
 
-@trial
-def lines_of_processes():
+def test_lines_of_processes() -> None:
     """Below what is said without a program, a line for each process that waits."""
     record = recorded(ONE, [JOINED, loaded(BOTH_SEND_CODE), SETTLE])
     before = """node 0 rests.
@@ -745,35 +656,31 @@ def lines_of_processes():
   No other process is left that could come there: a deadlock.
 """
     seen = told(record), told(record, programs=[("both.occ", BOTH_SEND)])
-    return (
-        "---\n".join(seen),
+    assert "---\n".join(seen) == (
         f"""{before}---
 {before}node 0 at 80000064 waits in line 4: c ! 1
 node 0 at 80000069 waits in line 6: d ! 2
-""",
+"""
     )
 
 
-@trial
-def line_of_a_fault():
+def test_line_of_a_fault() -> None:
     """The condition of the IF is its own line's, and so is the error that none is TRUE."""
     record = recorded(ONE, [JOINED, loaded(NO_CHOICE_CODE), SETTLE])
-    return (
-        told(record, programs=[("none.occ", NO_CHOICE)]),
+    assert told(record, programs=[("none.occ", NO_CHOICE)]) == (
         f"""node 0 halted by fault 3 in event {Counted(record).last("step 0 .*fault 3")}: \
 the error flag was set.
   It was at 80000055 in `seterr`, with A 00000000, B 00000000, C 00000000, W 80000064 and Error 0.
 node 0 at 80000055 erred in line 4: IF
-""",
+"""
     )
 
 
-@trial
-def line_of_an_alternative():
+def test_line_of_an_alternative() -> None:
     """A process that waits at two links has one line."""
     record = recorded(ONE, [JOINED, loaded(MERGE_CODE), SETTLE])
     lines = told(record, programs=[("merge.occ", MERGE)]).splitlines()
-    return repr((lines[0], lines[1], lines[-1], len([it for it in lines if it.startswith("node 0 at")]))), repr(
+    assert repr((lines[0], lines[1], lines[-1], len([it for it in lines if it.startswith("node 0 at")]))) == repr(
         (
             "node 0 rests.",
             "  The process at 8000005d waits in an alternative for a byte of link 0.",
@@ -783,23 +690,21 @@ def line_of_an_alternative():
     )
 
 
-@trial
-def line_of_an_instance():
+def test_line_of_an_instance() -> None:
     record = recorded(ONE, [JOINED, loaded(INSTANCE_CODE), SETTLE])
-    return (
-        told(record, programs=[("p.occ", INSTANCE)]).splitlines()[-1],
-        "node 0 at 80000050 waits in line 5 (8): to ! letter",
+    assert (
+        told(record, programs=[("p.occ", INSTANCE)]).splitlines()[-1]
+        == "node 0 at 80000050 waits in line 5 (8): to ! letter"
     )
 
 
-@trial
-def lines_of_two_nodes():
+def test_lines_of_two_nodes() -> None:
     """Node 0 has a program of assembly, whose `in` is line 7, and node 1 none that runs. Of another program that is said, and no line."""
     record = recorded(TWO, [JOINED, boot(WAIT_INSIDE), SETTLE])
     last = lambda *programs: [
         it for it in told(record, programs=programs).splitlines() if it.startswith("node 0 at") or "node 1 at" in it
     ]
-    return repr((last(("one.s", WAIT_INSIDE), ("two.occ", FOREVER)), last(("one.occ", FOREVER)))), repr(
+    assert repr((last(("one.s", WAIT_INSIDE), ("two.occ", FOREVER)), last(("one.occ", FOREVER)))) == repr(
         (
             ["node 0 at 8000004f waits in line 7: in"],
             ["node 0 at 8000004f waits where memory has other code than its program"],
@@ -807,24 +712,22 @@ def lines_of_two_nodes():
     )
 
 
-@trial
-def line_of_a_node_that_goes_on():
+def test_line_of_a_node_that_goes_on() -> None:
     """ajw 3 and sethalterr are 3 Steps, and each turn of the loop 6. So 18 are 3, two turns, and ldc 1, cj and ldc 7; behind 20 the j is
     next, of which the prefix is done. 4 + 12 + 36 events come before the first one."""
     record = by_hand(FOREVER_CODE, 20)
-    return (
-        "\n".join(told(record, at=52 + it, programs=[("forever.occ", FOREVER)]).splitlines()[-1] for it in (18, 20)),
-        "node 0 at 8000004e goes on in line 3: x := 7\nnode 0 at 80000050 goes on in line 2: WHILE TRUE",
+    assert (
+        "\n".join(told(record, at=52 + it, programs=[("forever.occ", FOREVER)]).splitlines()[-1] for it in (18, 20))
+        == "node 0 at 8000004e goes on in line 3: x := 7\nnode 0 at 80000050 goes on in line 2: WHILE TRUE"
     )
 
 
-@trial
-def refuses_programs():
+def test_refuses_programs() -> None:
     """Wrong words before all else, and then what is wrong with a program, with the name of its file."""
     record = recorded(ONE, [JOINED])
     wrong = why(record, programs=[("wrong.occ", "x := 1\n")]), why(record, programs=[("wrong.s", "hello\n")])
     words = lab(["why", "nowhere.replay", "--program", "x", "nowhere.s"])
-    return repr((wrong[0], wrong[1][:2], wrong[1][2].startswith("FOLDER/wrong.s: line 1, column 1: "), words)), repr(
+    assert repr((wrong[0], wrong[1][:2], wrong[1][2].startswith("FOLDER/wrong.s: line 1, column 1: "), words)) == repr(
         (
             (4, "", 'FOLDER/wrong.occ: line 1, column 1: fault 16: expected a name that is declared, not "x"\n'),
             (4, ""),
@@ -834,18 +737,13 @@ def refuses_programs():
     )
 
 
-@trial
-def torn():
+def test_torn() -> None:
     record = recorded(ONE, [JOINED])
     status, out, errors = why(record + "0 write 0 0")
-    return (
-        f"{status} {out}{errors}",
-        "0 after 4 events\nThe last line is cut, and was left out.\n" + host_has_nothing()[1],
-    )
+    assert f"{status} {out}{errors}" == "0 after 4 events\nThe last line is cut, and was left out.\n" + NOTHING_WAITS
 
 
-@trial
-def faults():
+def test_faults() -> None:
     """What isn't a record, by the line and what to do."""
     lines = (
         "; a record has lines as `0 write 0 05 @0 = written` (of a script, `lab run SCRIPT --record D` prints the record of "
@@ -853,7 +751,7 @@ def faults():
     )
     record = recorded(ONE, [JOINED, boot(END), SETTLE])
     first = record[: record.index("---\n")].count("\n") + 2
-    put = lambda line: record.replace("---\n", f"---\n{line}\n")
+    with_line = lambda line: record.replace("---\n", f"---\n{line}\n")
     rows = [
         (
             4,
@@ -865,42 +763,42 @@ def faults():
             4,
             f'line {first}, column 3: "hello" where a verb of a domain should be: config, configs, write, writes, read, reset, look, '
             f"step, move, moves, word, quiet, recorded, journal, restart, checkout, burst, commit or settle{lines}",
-            put("0 hello"),
+            with_line("0 hello"),
         ),
         (
             4,
             f'line {first}, column 11: "5" where a byte should be: two hexadecimal digits (each byte has two digits, as 05){lines}',
-            put("0 write 0 5 @0 = written"),
+            with_line("0 write 0 5 @0 = written"),
         ),
         (
             4,
             f"line {first}, column 13: a blank where the line should end (words stand between single blanks){lines}",
-            put("0 write 0 05  = written"),
+            with_line("0 write 0 05  = written"),
         ),
         (
             4,
             f"line {first}: a record has lines as `0 write 0 05 @0 = written` and `3 times 0 step 0 @farm = 3 ran`",
-            put("1 look 0 @0"),
+            with_line("1 look 0 @0"),
         ),
         (
             4,
             f"line {first}: the plan has no such user, host, node or port: take the plan that the record begins with",
-            put("0 look 3 @0"),
+            with_line("0 look 3 @0"),
         ),
         (
             4,
             f"line {first}: nothing happens here, so a record has no such line: leave it out",
-            put("0 step 0 @farm = idle"),
+            with_line("0 step 0 @farm = idle"),
         ),
         (
             4,
             f"line {first}: not all these Steps ran: write the last of them on a line of its own",
-            put("3 times 0 step 0 @farm"),
+            with_line("3 times 0 step 0 @farm"),
         ),
         (
             4,
             f"line {first}: the domain answers otherwise: a line before it is missing or was changed",
-            put("0 config 07 @0 = nothing"),
+            with_line("0 config 07 @0 = nothing"),
         ),
         (
             4,
@@ -908,22 +806,6 @@ def faults():
             record.replace("1099511627776", "1"),
         ),
     ]
-    return "".join(f"{it}\n" for it in (why(text) for _, _, text in rows)), "".join(
+    assert "".join(f"{it}\n" for it in (why(text) for _, _, text in rows)) == "".join(
         f"{(status, '', errors + chr(10))}\n" for status, errors, _ in rows
     )
-
-
-def main(names):
-    wrong = 0
-    for name in names or TRIALS:
-        seen, wanted = TRIALS[name]()
-        if seen != wanted:
-            wrong += 1
-            lines = [it.splitlines(keepends=True) for it in (wanted, seen)]
-            print(f"{name}: differs\n" + "".join(difflib.unified_diff(*lines, "expected", "printed")))
-    print(f"{len(names or TRIALS)} trials, {wrong} wrong")
-    return 1 if wrong else 0
-
-
-if __name__ == "__main__":
-    sys.exit(main(sys.argv[1:]))

@@ -1,13 +1,13 @@
-"""The trials of a student's first hour: loads that would boot nothing, hints for words of other systems, and the lines of sheets."""
+"""A student's first hour: loads that would boot nothing, hints for words of other systems, and the lines of sheets."""
+
 import os
 import re
-import subprocess
 
-from class_trials import Course
-from live_lines import PLAN
-from screens import CONTROL_C, CONTROL_D, Screen
-from serving_trials import SECONDS, Served, wanted
-from trials import TOP, built_program
+from support.courses import Course
+from support.live_lines import PLAN
+from support.screens import CONTROL_C, CONTROL_D, Screen
+from support.serving_trials import Served
+from support.trials import TOP, run_text, run_together, text_of
 
 HELLO = 'collect 0 68656c6c6f0a  "hello\\n"'
 UNCHECKED = "connect --unchecked sends it even so"
@@ -39,22 +39,13 @@ links = [0, -1, -1, -1]
 """
 
 
-def typed(it, name, text, *words):
+def typed(it: Served, name: str, text: str, *words: str) -> tuple[list[str], int]:
     """What lines of a file print at a terminal of this user, in their order, and the status."""
-    done = subprocess.run(
-        [f"{TOP}/connect", it.folder, name, *words],
-        input=text,
-        stdout=subprocess.PIPE,
-        stderr=subprocess.STDOUT,
-        env={**os.environ, "LAB": built_program("lab"), "HOME": "/nonexistent"},
-        timeout=SECONDS,
-        encoding="utf-8",
-        check=False,
-    )
+    done = run_together([f"{TOP}/connect", it.folder, name, *words], text, {**os.environ, "HOME": "/nonexistent"})
     return done.stdout.splitlines(), done.returncode
 
 
-def refused(why, *lines):
+def refused(why: str, *lines: str) -> str:
     return f"error: {why}. Type {' and then '.join(lines)} first, or {UNCHECKED}"
 
 
@@ -93,53 +84,50 @@ LOADS = [
 ]
 
 
-def loads_look_first(live, _):
+def test_loads_look_first() -> None:
     """A load that would boot nothing is refused where nobody can be asked, and each has its remedy. Nothing is recorded of what was
     looked at."""
-    with Served(live, PLAN) as it:
+    with Served(PLAN) as it:
         for before, told in LOADS:
             lines, status = typed(it, "ann", f"restart\n{before}load 0 hello\n")
-            wanted((before, lines[-1], status), (before, told, 0 if told == "boot 0 17" else 1))
+            assert (before, lines[-1], status) == (before, told, 0 if told == "boot 0 17" else 1)
         # half a message is left as it is: its last bytes come after the load that was refused
         lines, _ = typed(it, "ann", "restart\nconfig 0100\nload 0 hello\nconfig 0703\nload 0 hello\ncollect 0\n")
-        wanted(lines, ["restart ok", "config -", LOADS[0][1], "config -", "boot 0 17", HELLO])
-        wanted(it.stop()[0], 0)
+        assert lines == ["restart ok", "config -", LOADS[0][1], "config -", "boot 0 17", HELLO]
+        assert it.stop()[0] == 0
         records = sorted(os.listdir(f"{it.folder}/records"))
         last = max(
             (name for name in records if name.startswith("ann.")),
             key=lambda name: int((re.findall(r"\d+", name) or ["1"])[0]),
         )
-        with open(f"{it.folder}/records/{last}", encoding="utf-8") as file:
-            events = file.read().partition("---\n")[2].splitlines()
+        events = text_of(f"{it.folder}/records/{last}").partition("---\n")[2].splitlines()
     asked = [line.split(" = ")[0] for line in events if line.endswith("@0") or " @0 = " in line]
     kinds = [
         " ".join(line.split(" ")[1:3]) for line in asked if " config " in line or " look " in line or " reset " in line
     ]
-    wanted(kinds, ["config 01", "config 00", "config 07", "config 03"])
-    return f"{len(LOADS)} loads, and a message that is half typed"
+    assert kinds == ["config 01", "config 00", "config 07", "config 03"]
 
 
-def unchecked_loads_are_sent(live, _):
+def test_unchecked_loads_are_sent() -> None:
     """With the word for it a program is sent whatever its node does; and `-c` and JSON refuse as lines of a file are."""
-    with Served(live, PLAN) as it:
-        wanted(typed(it, "ann", f"{JOIN}load 0 echo\n"), (["config -", "boot 0 15"], 0))
+    with Served(PLAN) as it:
+        assert typed(it, "ann", f"{JOIN}load 0 echo\n") == (["config -", "boot 0 15"], 0)
         busy = refused("node 0 has a program that waits, and takes no boot before it is reset", "reset 0")
-        wanted(typed(it, "ann", "", "-c", "load 0 hello", "-c", "collect 0")[0][0], busy)
+        assert typed(it, "ann", "", "-c", "load 0 hello", "-c", "collect 0")[0][0] == busy
         told, status = typed(it, "ann", "", "--json", "-c", "load 0 hello")
-        wanted((status, '"refused": "notbooting"' in told[0]), (1, True))
+        assert (status, '"refused": "notbooting"' in told[0]) == (1, True)
         # the program there sends the code back
-        wanted(
-            typed(it, "ann", "load 0 hello\ncollect 0\n", "--unchecked"),
-            (["boot 0 17", "collect 0 10b44621fb24f246fb21f568656c6c6f0a"], 0),
+        assert typed(it, "ann", "load 0 hello\ncollect 0\n", "--unchecked") == (
+            ["boot 0 17", "collect 0 10b44621fb24f246fb21f568656c6c6f0a"],
+            0,
         )
-        wanted(it.stop()[0], 0)
-    return "a program that takes code"
+        assert it.stop()[0] == 0
 
 
-def hosts_and_nodes(live, _):
+def test_hosts_and_nodes() -> None:
     """Who gives the number of a node, or of nothing, is told which lines load into that node; and who shares a domain sees its
     ports, and nobody another's."""
-    with Served(live, TWO_NODES) as it:
+    with Served(TWO_NODES) as it:
         rows = [
             (
                 "load 1 hello\n",
@@ -166,77 +154,65 @@ def hosts_and_nodes(live, _):
             ("collect 2\n", HELLO.replace("0 ", "2 ", 1)),
         ]
         for text, told in rows:
-            wanted((text, typed(it, "bob", text)[0][-1]), (text, told))
-        wanted(
-            typed(it, "ann", "load 2 hello\n")[0][0],
-            "error: there is no host 2: you have the hosts 0 and 1. Try: load 0 hello",
+            assert (text, typed(it, "bob", text)[0][-1]) == (text, told)
+        assert (
+            typed(it, "ann", "load 2 hello\n")[0][0]
+            == "error: there is no host 2: you have the hosts 0 and 1. Try: load 0 hello"
         )
         # message 00 without 03: input 1 drives output 3, which isn't ready
-        wanted(
-            typed(it, "ann", "config 000103\nports\n")[0],
-            [
-                "config -",
-                "ports 0:- 1:- 2:6 3:(1) 4:- 5:- 6:2",
-                "  (what nothing of yours at port 6 sends goes to link 0 of node 1 at port 2)",
-                "  (what link 1 of node 0 at port 1 sends goes to link 1 of node 1 at port 3, when message 03 makes it ready)",
-                "  (what link 0 of node 1 at port 2 sends goes to nothing of yours at port 6)",
-            ],
-        )
-        wanted(
-            typed(it, "cas", "ports\njoin 0 1\nports\n")[0],
-            [
-                "ports 0:- 1:-",
-                "  (nothing is joined: join joins two ports)",
-                "config -",
-                "ports 0:1 1:0",
-                "  (what host 0 at port 1 sends goes to link 0 of node 0 at port 0)",
-                "  (what link 0 of node 0 at port 0 sends goes to host 0 at port 1)",
-            ],
-        )
+        assert typed(it, "ann", "config 000103\nports\n")[0] == [
+            "config -",
+            "ports 0:- 1:- 2:6 3:(1) 4:- 5:- 6:2",
+            "  (what nothing of yours at port 6 sends goes to link 0 of node 1 at port 2)",
+            "  (what link 1 of node 0 at port 1 sends goes to link 1 of node 1 at port 3, when message 03 makes it ready)",
+            "  (what link 0 of node 1 at port 2 sends goes to nothing of yours at port 6)",
+        ]
+        assert typed(it, "cas", "ports\njoin 0 1\nports\n")[0] == [
+            "ports 0:- 1:-",
+            "  (nothing is joined: join joins two ports)",
+            "config -",
+            "ports 0:1 1:0",
+            "  (what host 0 at port 1 sends goes to link 0 of node 0 at port 0)",
+            "  (what link 0 of node 0 at port 0 sends goes to host 0 at port 1)",
+        ]
         events = it.told("cas", "events")
-        wanted((typed(it, "cas", "ports\n" * 20)[1], it.told("cas", "events")), (0, events))
+        assert (typed(it, "cas", "ports\n" * 20)[1], it.told("cas", "events")) == (0, events)
         # a client that closes its side is answered still, and a tag comes back
         client = it.client("cas")
         client.say("#5 ports\n")
         client.stream.shutdown(1)
-        wanted((client.hear(), client.hear()), ("#5 ports 0:1 1:0", None))
-        wanted(it.stop()[0], 0)
-    return f"{len(rows) + 3} lines, and the ports of two domains"
+        assert (client.hear(), client.hear()) == ("#5 ports 0:1 1:0", "")
+        assert it.stop()[0] == 0
 
 
-def bytes_of_others_are_no_hindrance(live, _):
+def test_bytes_of_others_are_no_hindrance() -> None:
     """A byte that is stuck at another link of the node is lost by the reset, and the host's bytes go on as if it weren't there."""
     # node 1 sends a byte to link 1 of node 0, whose program has ended
     sends = "b424f25145fe21f5"
-    with Served(live, TWO_NODES) as it:
+    with Served(TWO_NODES) as it:
         lines, _ = typed(
             it,
             "ann",
             f"join 0 4\nboot 0 21f5\njoin 1 3\njoin 2 5\nboot 1 {sends}\nwhy 0\nload 0 hello\nreset 0\n"
             "load 0 hello\ncollect 0\n",
         )
-        wanted([line for line in lines if "Link 1 holds a byte that nobody will take" in line] != [], True)
-        wanted(
-            lines[-4:],
-            [
-                refused("node 0 has run a program that has ended, and takes no boot before it is reset", "reset 0"),
-                "reset 0 ok",
-                "boot 0 17",
-                HELLO,
-            ],
-        )
-        wanted(it.stop()[0], 0)
-    return "a neighbour's byte"
+        assert [line for line in lines if "Link 1 holds a byte that nobody will take" in line] != []
+        assert lines[-4:] == [
+            refused("node 0 has run a program that has ended, and takes no boot before it is reset", "reset 0"),
+            "reset 0 ok",
+            "boot 0 17",
+            HELLO,
+        ]
+        assert it.stop()[0] == 0
 
 
-def a_person_is_asked(live, _):
+def test_a_person_is_asked() -> None:
     """At a terminal `y` does what is offered, and loads; anything else, Ctrl-C and the end of the input send nothing."""
-    env = {"LAB": built_program("lab")}
-    with Served(live, PLAN) as it, Screen([f"{TOP}/connect", it.folder, "ann"], HOME=it.room.name, **env) as screen:
+    with Served(PLAN) as it, Screen([f"{TOP}/connect", it.folder, "ann"], HOME=it.room.name) as screen:
         screen.until("ann> ")
         ended = "node 0 has run a program that has ended, and takes no boot before it is reset."
 
-        def asks(line, told, question, keys):
+        def asks(line: str, told: str, question: str, keys: str) -> None:
             screen.press(f"{line}\r")
             screen.until(told)
             screen.until(f"{question} (y/n) ")
@@ -251,7 +227,7 @@ def a_person_is_asked(live, _):
             asks("load 0 hello", ended, "reset 0 and then load?", keys)
             screen.until("ann> ")
         # each time it was asked by `rest` and by `why`, and nothing else was sent
-        wanted(it.told("ann", "lines") - lines, 10)
+        assert it.told("ann", "lines") - lines == 10
         asks("load 0 hello", ended, "reset 0 and then load?", "y\r")
         screen.until("reset 0 ok")
         screen.until("boot 0 17")
@@ -269,11 +245,9 @@ def a_person_is_asked(live, _):
             screen.until(told)
         screen.line("collect 0", [HELLO])
         screen.press("exit\r")
-        wanted(screen.end()[1], 0)
-        with open(f"{it.room.name}/.nadzsumek_history", encoding="utf-8") as history:
-            wanted({"y", "n", "no thanks"} & {*history.read().splitlines()}, set())
-        wanted(it.stop()[0], 0)
-    return "six questions"
+        assert screen.end()[1] == 0
+        assert {"y", "n", "no thanks"} & {*text_of(f"{it.room.name}/.nadzsumek_history").splitlines()} == set()
+        assert it.stop()[0] == 0
 
 
 # Words of other systems, with a part of what is said of each.
@@ -298,18 +272,17 @@ ELSEWHERE = [
 ]
 
 
-def words_of_elsewhere_have_hints(live, _):
+def test_words_of_elsewhere_have_hints() -> None:
     """A word of another system has a hint that fits; one that is nearly a verb has its verb; and `exit` and `quit` end."""
-    with open(f"{TOP}/crates/t414_assembly/src/mnemonics.rt", encoding="utf-8") as it:
-        text = it.read()
+    text = text_of(f"{TOP}/crates/t414_assembly/src/mnemonics.rt")
     names = {*re.findall(r'^    \("(\w+)", 0x', text, re.M)} | {
         *re.findall(r'"(\w+)"', re.search(r"\d+\] = \[(.*?)\];", text, re.S)[1])
     }
-    with Served(live, PLAN) as it:
+    with Served(PLAN) as it:
         lines, status = typed(it, "ann", "".join(f"{line}\n" for line, _ in ELSEWHERE))
-        wanted((len(lines), status), (len(ELSEWHERE), 1))
+        assert (len(lines), status) == (len(ELSEWHERE), 1)
         for (line, told), said in zip(ELSEWHERE, lines):
-            wanted((line, said.startswith("error: "), told in said), (line, True, True))
+            assert (line, said.startswith("error: "), told in said) == (line, True, True)
         lines, _ = typed(it, "ann", "".join(f"{name}\n" for name in sorted(names)))
         hinted = [
             line
@@ -319,11 +292,10 @@ def words_of_elsewhere_have_hints(live, _):
             or "reset" in line
             or "join joins" in line
         ]
-        wanted(len(hinted), len(names))
+        assert len(hinted) == len(names)
         for word in ("exit", "quit"):
-            wanted(typed(it, "ann", f"rest\n{word}\nlook 0\n"), (["rest quiet"], 0))
-        wanted(it.stop()[0], 0)
-    return f"{len(ELSEWHERE)} words, and {len(names)} instructions"
+            assert typed(it, "ann", f"rest\n{word}\nlook 0\n") == (["rest quiet"], 0)
+        assert it.stop()[0] == 0
 
 
 def lines_of(sheet):
@@ -334,47 +306,21 @@ def lines_of(sheet):
     return next(line for line in lines if "/connect " in line), lines[at:]
 
 
-def sheets_load_each_node(live, _):
+def test_sheets_load_each_node() -> None:
     """All lines of a sheet are done as they are: each node of the machine greets, by as many hosts as there are."""
     told = []
     for nodes, hosts in ((1, 1), (2, 1), (2, 2), (3, 2), (4, 4), (8, 1)):
-        with Course(live, 1, "--nodes", f"{nodes}", "--hosts", f"{hosts}") as it:
+        with Course(1, "--nodes", f"{nodes}", "--hosts", f"{hosts}") as it:
             it.must("start")
             call, lines = lines_of(f"{it.folder}/sheets/student-1.txt")
-            done = subprocess.run(
-                call.split(),
-                input="".join(f"{line}\n" for line in lines),
-                env=it.env,
-                capture_output=True,
-                encoding="utf-8",
-                timeout=SECONDS,
-                check=False,
-            )
-            wanted((nodes, done.returncode, done.stderr), (nodes, 0, ""))
+            done = run_text(call.split(), "".join(f"{line}\n" for line in lines), env=it.env)
+            assert (nodes, done.returncode, done.stderr) == (nodes, 0, "")
             answers = done.stdout.splitlines()
-            wanted((nodes, len(answers)), (nodes, len(lines)))
+            assert (nodes, len(answers)) == (nodes, len(lines))
             greeted = [re.sub(r"^collect \d+", "collect 0", it) for it in answers if it.startswith("collect ")]
-            wanted((nodes, greeted), (nodes, [HELLO] * nodes))
-            looks = subprocess.run(
-                call.split(),
-                input="".join(f"look {node}\n" for node in range(nodes)),
-                env=it.env,
-                capture_output=True,
-                encoding="utf-8",
-                timeout=SECONDS,
-                check=False,
+            assert (nodes, greeted) == (nodes, [HELLO] * nodes)
+            looks = run_text(
+                call.split(), "".join(f"look {node}\n" for node in range(nodes)), env=it.env
             ).stdout.splitlines()
-            wanted(looks, [f"look {node} idle overruns 0 0 0 0" for node in range(nodes)])
+            assert looks == [f"look {node} idle overruns 0 0 0 0" for node in range(nodes)]
         told.append(f"{nodes} by {hosts}")
-    return ", ".join(told)
-
-
-TRIALS = (
-    loads_look_first,
-    unchecked_loads_are_sent,
-    hosts_and_nodes,
-    bytes_of_others_are_no_hindrance,
-    a_person_is_asked,
-    words_of_elsewhere_have_hints,
-    sheets_load_each_node,
-)

@@ -1,15 +1,17 @@
-"""The trials of `serve` and `connect` with a program in the place of `live` that says notes between its answers, and of rooms as
+"""`serve` and `connect` with a program in the place of `live` that says notes between its answers, and of rooms as
 `serve` and `class` hand them on."""
+
 import contextlib
 import json
 import os
 import re
 import subprocess
 import time
+from collections.abc import Callable
 
-from class_trials import Course
-from serving_trials import SECONDS, Served, wanted
-from trials import TOP
+from support.courses import Course
+from support.serving_trials import Served
+from support.trials import TOP, put, text_of
 
 PLAN = """version = 3
 
@@ -63,107 +65,90 @@ for number, line in enumerate(sys.stdin, 1):
 NOTE = "note rests 60 64"
 
 
-def noting(served):
+def noting(served: Served) -> None:
     """Puts the program that says notes in the place of `live`."""
     served.env["LIVE"] = f"{served.room.name}/noting"
-    with open(served.env["LIVE"], "w", encoding="utf-8") as it:
-        it.write(NOTING)
+    put(served.env["LIVE"], NOTING)
     os.chmod(served.env["LIVE"], 0o755)
 
 
-def words_got(served):
+def words_got(served: Served) -> list[str]:
     """The words that `live` got, each time that it was started."""
-    with open(f"{served.env['LIVE']}.words", encoding="utf-8") as it:
-        return it.read().splitlines()
+    return text_of(f"{served.env['LIVE']}.words").splitlines()
 
 
-def notes_answer_nothing(live, _):
+def test_notes_answer_nothing() -> None:
     """A note goes to all clients of its user and to nobody else, and takes off no line: each line is answered in its order, a
     client that has ended its side is kept for just its own answers, and of a `live` that ends each line that it left is named.
     """
-    with Served(live, PLAN, starts=False) as it:
+    with Served(PLAN, starts=False) as it:
         noting(it)
         it.start()
         ann, other, bob, cas = it.client("ann"), it.client("ann"), it.client("bob"), it.client("cas")
-        wanted(cas.ask("look 0"), "look 0")
+        assert cas.ask("look 0") == "look 0"
         half = it.client("ann")
         half.say("look 1\nfull\nlook 2\n")
         half.stream.shutdown(1)
         answered = [NOTE, NOTE, "look 1", NOTE, NOTE, "error 5 full", NOTE, NOTE, "look 2"]
-        wanted([half.hear() for _ in range(10)], [*answered, None])
+        assert [half.hear() for _ in range(10)] == [*answered, ""]
         for client in (ann, other):
-            wanted([client.hear() for _ in range(9)], answered)
-        wanted([bob.hear() for _ in range(6)], [NOTE] * 6)
+            assert [client.hear() for _ in range(9)] == answered
+        assert [bob.hear() for _ in range(6)] == [NOTE] * 6
         ann.say("look 3\nhold\nhold\n")
-        wanted([[one.hear() for _ in range(7)] for one in (ann, other)], [[NOTE, NOTE, "look 3", *[NOTE] * 4]] * 2)
-        wanted([bob.hear() for _ in range(6)], [NOTE] * 6)
+        assert [[one.hear() for _ in range(7)] for one in (ann, other)] == [[NOTE, NOTE, "look 3", *[NOTE] * 4]] * 2
+        assert [bob.hear() for _ in range(6)] == [NOTE] * 6
         bob.say("hold\n")
-        wanted([[one.hear() for _ in range(2)] for one in (ann, other, bob)], [[NOTE, NOTE]] * 3)
+        assert [[one.hear() for _ in range(2)] for one in (ann, other, bob)] == [[NOTE, NOTE]] * 3
         cas.say("die\n")
         lost, ended = (
             "error: not answered, send it again if you want it: ",
             "note: the farm ended with status 9 and is started again",
         )
-        wanted([ann.hear() for _ in range(5)], [f"{lost}hold", f"{lost}hold", ended, "note: the farm goes on", NOTE])
-        wanted([bob.hear() for _ in range(4)], [f"{lost}hold", ended, "note: the farm goes on", NOTE])
-        wanted([cas.hear() for _ in range(3)], [f"{lost}die", ended, "note: the farm goes on"])
-        wanted(it.stop()[0], 0)
-    return "four clients of two users, and none of a third"
+        assert [ann.hear() for _ in range(5)] == [f"{lost}hold", f"{lost}hold", ended, "note: the farm goes on", NOTE]
+        assert [bob.hear() for _ in range(4)] == [f"{lost}hold", ended, "note: the farm goes on", NOTE]
+        assert [cas.hear() for _ in range(3)] == [f"{lost}die", ended, "note: the farm goes on"]
+        assert it.stop()[0] == 0
 
 
-def terminals_show_notes(live, _):
+def test_terminals_show_notes() -> None:
     """A terminal shows each note with what it means, and none is taken for the answer to a line."""
-    with Served(live, PLAN, starts=False) as it:
+    with Served(PLAN, starts=False) as it:
         noting(it)
         it.start()
-        done = subprocess.run(
-            [f"{TOP}/connect", it.folder, "ann"],
-            input="look 0\nrest\nlook 0\n",
-            capture_output=True,
-            encoding="utf-8",
-            timeout=SECONDS,
-            check=False,
-        )
+        done = run_text([f"{TOP}/connect", it.folder, "ann"], "look 0\nrest\nlook 0\n")
         means = "  (the room of your machine is used up, so its nodes do nothing more: restart begins anew with a room)"
-        wanted((done.returncode, done.stderr), (0, ""))
-        wanted(
-            done.stdout.splitlines(),
-            [*[NOTE, means] * 2, "look 0", *[NOTE, means] * 2, "rest", *[NOTE, means] * 2, "look 0"],
-        )
-        done = subprocess.run(
-            [f"{TOP}/connect", it.folder, "operator"],
-            input="memory\nusers\n",
-            capture_output=True,
-            encoding="utf-8",
-            timeout=SECONDS,
-            check=False,
-        )
-        wanted((done.returncode, done.stderr), (0, ""))
-        wanted(
-            done.stdout.splitlines(),
-            [
-                "!memory 20971520 134217728",
-                *(f"!users {name} 0 9 1000 quiet rests 60 64 5 256" for name in ("ann", "bob", "cas")),
-            ],
-        )
-        wanted(it.stop()[0], 0)
-    return "three lines of a user, two of the operator"
+        assert (done.returncode, done.stderr) == (0, "")
+        assert done.stdout.splitlines() == [
+            *[NOTE, means] * 2,
+            "look 0",
+            *[NOTE, means] * 2,
+            "rest",
+            *[NOTE, means] * 2,
+            "look 0",
+        ]
+        done = run_text([f"{TOP}/connect", it.folder, "operator"], "memory\nusers\n")
+        assert (done.returncode, done.stderr) == (0, "")
+        assert done.stdout.splitlines() == [
+            "!memory 20971520 134217728",
+            *(f"!users {name} 0 9 1000 quiet rests 60 64 5 256" for name in ("ann", "bob", "cas")),
+        ]
+        assert it.stop()[0] == 0
 
 
-def serve_says_rooms(live, _):
+def test_serve_says_rooms() -> None:
     """`serve` hands the rooms to `live`, says what all of them may take beside what is there, and warns if that is less."""
-    with Served(live, PLAN, starts=False) as it:
+    with Served(PLAN, starts=False) as it:
         noting(it)
         told = []
         for words in ([], ["--room", "64G", "--record-room", "1M"], ["--record-room", "64G"]):
             it.start(*words)
-            wanted([word for word in words if word not in words_got(it)[-1].split()], [])
+            assert [word for word in words if word not in words_got(it)[-1].split()] == []
             status, errors = it.stop()
-            wanted(status, 0)
+            assert status == 0
             told.append(
                 [line for line in errors.decode().splitlines() if "domains may take" in line or "warning" in line]
             )
-        wanted(["--room" in words for words in words_got(it)], [False, True, False])
+        assert ["--room" in words for words in words_got(it)] == [False, True, False]
         shown = [
             r"128\.0 MiB of memory .* and 512\.0 MiB on disk",
             r"128\.0 GiB of memory .* and 2\.0 MiB on disk",
@@ -171,12 +156,12 @@ def serve_says_rooms(live, _):
         ]
         for lines, text in zip(told, shown):
             pattern = rf".* serve: the rooms of 2 domains may take {text} \(.*/farm has [\d.]+ [MG]iB free\)"
-            wanted((pattern, lines[0], re.fullmatch(pattern, lines[0]) is not None), (pattern, lines[0], True))
+            assert (pattern, lines[0], re.fullmatch(pattern, lines[0]) is not None) == (pattern, lines[0], True)
         # there may be a machine that has so much
         has = os.sysconf("SC_PHYS_PAGES") * os.sysconf("SC_PAGE_SIZE") >= 128 << 30
-        wanted(
-            (len(told[0]), has or "warning: if all rooms are used up there isn't memory for them" in told[1][1]),
-            (1, True),
+        assert (len(told[0]), has or "warning: if all rooms are used up there isn't memory for them" in told[1][1]) == (
+            1,
+            True,
         )
         for words in (
             ["--room", "1023K"],
@@ -185,60 +170,58 @@ def serve_says_rooms(live, _):
             ["--room", "12m"],
             ["--room", ""],
         ):
-            done = subprocess.run(
-                it.call(*words), env=it.env, capture_output=True, encoding="utf-8", timeout=SECONDS, check=False
+            done = run_text(it.call(*words), env=it.env)
+            assert (done.returncode, "a room's bytes are wanted, from 1M to 64G, such as 64M" in done.stderr) == (
+                2,
+                True,
             )
-            wanted(
-                (done.returncode, "a room's bytes are wanted, from 1M to 64G, such as 64M" in done.stderr), (2, True)
-            )
-    return f"{len(told)} starts, and five sizes that are refused"
 
 
 @contextlib.contextmanager
-def noting_course(live, *more):
+def noting_course(*more):
     """A class of one student whose farm is run by the program that says notes, and the words that this got."""
-    with Course(live, 1, *more) as it, Served(live, PLAN, starts=False) as room:
+    with Course(1, *more) as it, Served(PLAN, starts=False) as room:
         noting(room)
-        with open(room.env["LIVE"], "w", encoding="utf-8") as file:
-            file.write(NOTING.replace('("ann", "bob", "cas")', '["student-1"]'))
+        put(room.env["LIVE"], NOTING.replace('("ann", "bob", "cas")', '["student-1"]'))
         it.env["LIVE"] = room.env["LIVE"]
         yield it, lambda: words_got(room)
 
 
-def runs_with(it, got, *words):
+def runs_with(it: Course, got: Callable[[], list[str]], *words: str) -> str:
     """The rooms with which a farm runs that is started by these words and stopped again."""
-    wanted(it.call("start", *words, it.folder).stdout, "farm-1: up, 1 user\n")
+    assert it.call("start", *words, it.folder).stdout == "farm-1: up, 1 user\n"
     told = got()[-1]
-    wanted(it.must("stop"), "farm-1: off\n")
-    return re.search(r"--room \w+ --record-room \w+", told)[0]
+    assert it.must("stop") == "farm-1: off\n"
+    found = re.search(r"--room \w+ --record-room \w+", told)
+    assert found
+    return found[0]
 
 
-def class_keeps_rooms(live, _):
+def test_class_keeps_rooms() -> None:
     """What a class was made with, or started with last, is what its farms run with; other rooms want farms that are off. The table
     shows what is used, and the memory of the farm."""
-    with noting_course(live, "--record-room", "200M") as (it, got):
-        wanted(runs_with(it, got, "--room", "2M"), "--room 2M --record-room 200M")
-        wanted(runs_with(it, got, "--record-room=3M"), "--room 2M --record-room 3M")
-        wanted(it.must("start"), "farm-1: up, 1 user\n")
-        wanted("--room 2M --record-room 3M" in got()[-1], True)
-        wanted(it.call("start", "--room", "2M", it.folder).returncode, 0)
+    with noting_course("--record-room", "200M") as (it, got):
+        assert runs_with(it, got, "--room", "2M") == "--room 2M --record-room 200M"
+        assert runs_with(it, got, "--record-room=3M") == "--room 2M --record-room 3M"
+        assert it.must("start") == "farm-1: up, 1 user\n"
+        assert "--room 2M --record-room 3M" in got()[-1]
+        assert it.call("start", "--room", "2M", it.folder).returncode == 0
         done = it.call("start", "--room", "5M", it.folder)
-        wanted(
-            (done.returncode, done.stderr),
-            (1, f"class: farm-1 is up, with the rooms that it has: class stop {it.folder} first\n"),
+        assert (done.returncode, done.stderr) == (
+            1,
+            f"class: farm-1 is up, with the rooms that it has: class stop {it.folder} first\n",
         )
         rows = it.must("status").splitlines()
-        wanted(
-            [re.split("  +", row)[4:8] for row in rows[:2]],
-            [["used", "room", "records", "now"], ["0.9%", "93.8%", "0.0M", "quiet rests"]],
-        )
-        wanted(rows[2:], ["", "farm-1 has 20 MiB of memory, and its rooms may take 128 MiB"])
-    return "three starts"
+        assert [re.split("  +", row)[4:8] for row in rows[:2]] == [
+            ["used", "room", "records", "now"],
+            ["0.9%", "93.8%", "0.0M", "quiet rests"],
+        ]
+        assert rows[2:] == ["", "farm-1 has 20 MiB of memory, and its rooms may take 128 MiB"]
 
 
-def class_serve_has_what_is_kept(live, _):
+def test_class_serve_has_what_is_kept() -> None:
     """One farm of a class by itself, as a service manager starts it, has the rooms that are kept of the class."""
-    with noting_course(live, "--room", "2M") as (it, got):
+    with noting_course("--room", "2M") as (it, got):
         place = os.path.realpath(it.folder)
         usage = "serve wants the folder of a farm behind it or that of a class, or --sync and the folder. Try: class serve course/farm-1"
         for words, told in (
@@ -247,49 +230,35 @@ def class_serve_has_what_is_kept(live, _):
             ((f"{place}/farm-9",), f"{place}/farm-9 is no farm of its class: there are farm-1"),
         ):
             done = it.call("serve", *words)
-            wanted((done.returncode, done.stderr), (1, f"class: {told}\n"))
+            assert (done.returncode, done.stderr) == (1, f"class: {told}\n")
         with subprocess.Popen(
             [f"{TOP}/class", "serve", "--sync", f"{place}/farm-1"], env=it.env, stderr=subprocess.DEVNULL
         ) as one:
             while not os.path.exists(f"{it.env['LIVE']}.words") and one.poll() is None:
                 time.sleep(0.02)
-            wanted(it.must("start"), "farm-1: up, 1 user\n")
-            wanted("--room 2M --record-room 256M --sync --record" in got()[-1], True)
-            wanted((it.lock(1), it.must("stop"), one.wait()), (one.pid, "farm-1: off\n", 0))
-    return "one farm"
+            assert it.must("start") == "farm-1: up, 1 user\n"
+            assert "--room 2M --record-room 256M --sync --record" in got()[-1]
+            assert (it.lock(1), it.must("stop"), one.wait()) == (one.pid, "farm-1: off\n", 0)
 
 
-def class_checks_rooms(live, _):
+def test_class_checks_rooms() -> None:
     """A class of an earlier version has the usual rooms, wrong ones are refused, and it is said if there isn't so much."""
-    with noting_course(live) as (it, got):
+    with noting_course() as (it, got):
         path, names = f"{it.folder}/class.json", f"{it.room.name}/many.txt"
         with open(path, encoding="utf-8") as file:
             kept = json.load(file)
-        wanted(kept.pop("rooms"), {"room": "64M", "record_room": "256M"})
+        assert kept.pop("rooms") == {"room": "64M", "record_room": "256M"}
         for rooms in ({"room": "1K"}, {"room": 5}, [], {"zed": "1M"}, None):
             with open(path, "w", encoding="utf-8") as file:
                 json.dump({**kept, **({} if rooms is None else {"rooms": rooms})}, file)
             done = it.call("status", it.folder)
-            wanted(
-                (done.returncode, "class.json isn't as class wrote it" in done.stderr),
-                (1, True) if rooms is not None else (0, False),
+            assert (done.returncode, "class.json isn't as class wrote it" in done.stderr) == (
+                (1, True) if rooms is not None else (0, False)
             )
-        wanted(runs_with(it, got), "--room 64M --record-room 256M")
-        with open(names, "w", encoding="utf-8") as file:
-            file.write("".join(f"Student {number}\n" for number in range(1000)))
+        assert runs_with(it, got) == "--room 64M --record-room 256M"
+        put(names, "".join(f"Student {number}\n" for number in range(1000)))
         told = it.call("--students", names, "--nodes", "1", "--room", "64G", f"{it.room.name}/many").stdout.splitlines()
-        wanted(
-            (told[1].startswith("note: the rooms of 1000 domains may take 64000.0 GiB of memory ("), told[2]),
-            (True, "warning: if all rooms are used up there isn't memory for them: give smaller ones by --room"),
+        assert (told[1].startswith("note: the rooms of 1000 domains may take 64000.0 GiB of memory ("), told[2]) == (
+            True,
+            "warning: if all rooms are used up there isn't memory for them: give smaller ones by --room",
         )
-    return "five files, and a class that is too large"
-
-
-TRIALS = (
-    notes_answer_nothing,
-    terminals_show_notes,
-    serve_says_rooms,
-    class_keeps_rooms,
-    class_serve_has_what_is_kept,
-    class_checks_rooms,
-)

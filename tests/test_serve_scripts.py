@@ -1,23 +1,23 @@
-"""The trials of scripts at a farm that is served: the package `nadzsumek`, lines behind `connect -c`, and the tags by which each of
+"""Scripts at a farm that is served: the package `nadzsumek`, lines behind `connect -c`, and the tags by which each of
 them hears its own answers alone."""
+
 import asyncio
-import contextlib
 import json
 import os
 import re
 import signal
-import subprocess
-import sys
 import threading
 import time
+from collections.abc import Callable
+from typing import Any, TypeVar
 
-from screens import Screen
-from serving_trials import MOST_LINE, PLAN, SECONDS, Served, plan_of_users, wanted
-from trials import TOP, built_program
-
-sys.path.append(TOP)
 from nadzsumek import Farm, FarmError, Loaded, Look, NoFarm, NotAnswered, Refused, Rest, State
+from support.live_lines import PLAN, SECONDS
+from support.screens import Screen
+from support.serving_trials import MOST_LINE, Served, plan_of_users
+from support.trials import TOP, put, run_together
 
+Raised = TypeVar("Raised", bound=Exception)
 LOOKED = "look 0 booting overruns 0 0 0 0"
 LOST = "error: not answered, send it again if you want it: "
 HELLO = bytes.fromhex("b44621fb24f246fb21f568656c6c6f0a")
@@ -39,19 +39,7 @@ again:  ldl count
 """
 
 
-@contextlib.contextmanager
-def lab():
-    """Lets this process assemble with the built lab."""
-    before = os.environ.get("LAB")
-    os.environ["LAB"] = built_program("lab")
-    try:
-        yield
-    finally:
-        if before is None:
-            del os.environ["LAB"]
-
-
-def raised(call, kind):
+def raised(call: Callable[[], object], kind: type[Raised]) -> Raised:
     """What a call raises."""
     try:
         value = call()
@@ -60,69 +48,65 @@ def raised(call, kind):
     raise AssertionError(f"{value!r} in place of {kind.__name__}")
 
 
-def tags_name_answers(live, _):
+def test_tags_name_answers() -> None:
     """A line with a tag is answered to its client alone, with the tag before each line; who has sent one hears no answers to
     others. What looks like a tag and is none goes on as it is."""
-    with Served(live, PLAN, logged=True) as it:
+    with Served(PLAN, logged=True) as it:
         one, other, operator = it.client("ann"), it.client("ann"), it.client("operator")
         one.say("#7 why\n#8 lok 0\n#999999999 look 0\n")
-        wanted(
-            [one.hear() for _ in range(4)],
-            [
-                "#7 why after 0 events",
-                "#7 why node 0 waits for a control byte.",
-                "#7 why   No byte comes by link 0: no input drives output 0.",
-                "#7 why end",
-            ],
+        assert [one.hear() for _ in range(4)] == [
+            "#7 why after 0 events",
+            "#7 why node 0 waits for a control byte.",
+            "#7 why   No byte comes by link 0: no input drives output 0.",
+            "#7 why end",
+        ]
+        assert (re.fullmatch(r"#8 error \d+ verb", one.hear()) is not None, one.hear()) == (
+            True,
+            f"#999999999 {LOOKED}",
         )
-        wanted((re.fullmatch(r"#8 error \d+ verb", one.hear()) is not None, one.hear()), (True, f"#999999999 {LOOKED}"))
         other.say("look 0\n")
-        wanted(other.hear(), LOOKED)
+        assert other.hear() == LOOKED
         one.say("rest\n")
-        wanted([client.hear() for client in (one, other)], ["rest quiet"] * 2)
+        assert [client.hear() for client in (one, other)] == ["rest quiet"] * 2
         for line in ("#x look 0", "#1234567890 look 0", "#7", "#7look 0", "##7 look 0"):
-            wanted(re.fullmatch(r"error \d+ verb", other.ask(line)) is not None, True)
+            assert re.fullmatch(r"error \d+ verb", other.ask(line)) is not None
         operator.say("#1 users\n#2 restart ann\n#3 rest\n")
         told = [operator.hear() for _ in range(5)]
         # the domain's own thread answers a restart, later than the thread that reads answers what is wrong
-        wanted(
-            sorted(line.split(" ")[:3] for line in told),
-            [
-                ["#1", "!users", "ann"],
-                ["#1", "!users", "bob"],
-                ["#1", "!users", "cas"],
-                ["#2", "!restart", "ann"],
-                ["#3", "!", "error"],
-            ],
-        )
+        assert sorted(line.split(" ")[:3] for line in told) == [
+            ["#1", "!users", "ann"],
+            ["#1", "!users", "bob"],
+            ["#1", "!users", "cas"],
+            ["#2", "!restart", "ann"],
+            ["#3", "!", "error"],
+        ]
         with it.held_live() as number:
             one.say("#5 look 0\n")
             other.say("look 0\n")
             time.sleep(0.2)
             os.kill(number, signal.SIGKILL)
         ended = "note: the farm ended by signal 9 (SIGKILL) and is started again"
-        wanted([one.hear(), one.hear()], [f"#5 {LOST}look 0", ended])
-        wanted([other.hear(), other.hear()], [f"{LOST}look 0", ended])
+        assert [one.hear(), one.hear()] == [f"#5 {LOST}look 0", ended]
+        assert [other.hear(), other.hear()] == [f"{LOST}look 0", ended]
         one.until("note: the farm goes on")
         one.say(f"#6 write 0 {'0' * MOST_LINE}\n")
-        wanted(re.fullmatch(r"#6 error \d+ long", one.until("#6")) is not None, True)
+        assert re.fullmatch(r"#6 error \d+ long", one.until("#6")) is not None
         it.stop()
-        wanted(any(line.startswith(b"ann #7 ") for line in it.logged()), False)
-    return "five lines with tags of a user, three of the operator, and five that look so"
+        assert not any(line.startswith(b"ann #7 ") for line in it.logged())
 
 
-def scripts_and_terminals_of_one_user(live, _):
+def test_scripts_and_terminals_of_one_user() -> None:
     """Two scripts and a terminal speak as one user at once, and another user beside them: each hears his own answers."""
-    with lab(), Served(live, PLAN) as it, Screen([f"{TOP}/connect", it.folder, "ann"], HOME=it.room.name) as screen:
+    with Served(PLAN) as it, Screen([f"{TOP}/connect", it.folder, "ann"], HOME=it.room.name) as screen:
         screen.until("ann> ")
         wrong, is_over = [], threading.Event()
 
-        def ask(name, node):
+        def ask(name: str, node: int) -> None:
             try:
                 with Farm(it.folder).user(name) as user:
                     while not is_over.is_set():
                         told = [raised(lambda: user.look(node), Refused).word, user.peek(0, 0x80000100)]
-                        wanted(told, ["nosuch", None])
+                        assert told == ["nosuch", None]
             except (AssertionError, FarmError) as error:
                 wrong.append(repr(error))
 
@@ -131,54 +115,64 @@ def scripts_and_terminals_of_one_user(live, _):
             thread.start()
         with Farm(it.folder).user("ann") as ann:
             for _ in range(50):
-                wanted((ann.look(0).state, ann.ask("look 3")), (State.BOOTING, ["look 3 nosuch"]))
+                assert (ann.look(0).state, ann.ask("look 3")) == (State.BOOTING, ["look 3 nosuch"])
         screen.line("look 0", [LOOKED])
         screen.line("rest", ["rest quiet"])
         is_over.set()
         for thread in threads:
             thread.join()
-        wanted((wrong, "nosuch" in screen.shown), ([], False))
+        assert (wrong, "nosuch" in screen.shown) == ([], False)
         screen.press("quit\r")
         screen.end()
-        wanted(it.stop()[0], 0)
-    return "three scripts and a terminal of ann, one of bob"
+        assert it.stop()[0] == 0
 
 
-def verbs_have_results(live, _):
+def test_verbs_have_results() -> None:
     """Each verb of a user, as a call of Python."""
-    with lab(), Served(live, PLAN) as it, Farm(it.folder).user("ann") as ann:
-        wanted((Farm(it.folder).users(), ann.ports), (["ann", "bob", "cas"], (0, 7, 0)))
-        wanted(
-            [ann.join(0, 7), ann.poke(0, 0x80000100, 0xDEADBEEF), ann.peek(0, 0x80000100), ann.rest()],
-            [None, None, 0xDEADBEEF, Rest.QUIET],
-        )
-        wanted(
-            [ann.load(0, "hello"), ann.collect(0, 6), ann.look(0), ann.reset(0)],
-            [Loaded(16, 0), b"hello\n", Look(State.IDLE, None, None, (0, 0, 0, 0)), None],
-        )
-        wanted((ann.boot(0, bytes.fromhex("21f1")), ann.look(0)), (3, Look(State.HALTED, 2, 0x11, (0, 0, 0, 0))))
-        wanted((f"{ann.why(0)}".splitlines()[0][:22], ann.why().events > 20), ("node 0 halted by fault", True))
+    with Served(PLAN) as it, Farm(it.folder).user("ann") as ann:
+        assert (Farm(it.folder).users(), ann.ports) == (["ann", "bob", "cas"], (0, 7, 0))
+        assert [ann.join(0, 7), ann.poke(0, 0x80000100, 0xDEADBEEF), ann.peek(0, 0x80000100), ann.rest()] == [
+            None,
+            None,
+            0xDEADBEEF,
+            Rest.QUIET,
+        ]
+        assert [ann.load(0, "hello"), ann.collect(0, 6), ann.look(0), ann.reset(0)] == [
+            Loaded(16, 0),
+            b"hello\n",
+            Look(State.IDLE, None, None, (0, 0, 0, 0)),
+            None,
+        ]
+        assert (ann.boot(0, bytes.fromhex("21f1")), ann.look(0)) == (3, Look(State.HALTED, 2, 0x11, (0, 0, 0, 0)))
+        assert (f"{ann.why(0)}".splitlines()[0][:22], ann.why().events > 20) == ("node 0 halted by fault", True)
         ann.reset(0)
         # long code is poked, from a file or from bytes
-        wanted((ann.load(0, HELLO + bytes(400)).pokes > 100, ann.collect(0, 6), ann.reset(0)), (True, b"hello\n", None))
-        wanted(
-            (ann.load(0, memoryview(HELLO)), ann.collect(0, 6), ann.config(b"\x02\x00\x02\x07"), ann.config(b"\x03")),
-            (Loaded(16, 0), b"hello\n", b"\x87\x80", b""),
+        assert (ann.load(0, HELLO + bytes(400)).pokes > 100, ann.collect(0, 6), ann.reset(0)) == (
+            True,
+            b"hello\n",
+            None,
         )
-        wanted(
-            (ann.restart(), ann.join(0, 7), ann.load(0, f"{TOP}/examples/programs/echo.s")), (None, None, Loaded(14, 0))
+        assert (
+            ann.load(0, memoryview(HELLO)),
+            ann.collect(0, 6),
+            ann.config(b"\x02\x00\x02\x07"),
+            ann.config(b"\x03"),
+        ) == (Loaded(16, 0), b"hello\n", b"\x87\x80", b"")
+        assert (ann.restart(), ann.join(0, 7), ann.load(0, f"{TOP}/examples/programs/echo.s")) == (
+            None,
+            None,
+            Loaded(14, 0),
         )
-        wanted([ann.send(0, "hé\n"), ann.write(0, b"\0\1"), ann.collect(0, 6)], [4, 2, "hé\n".encode() + b"\0\1"])
-        wanted([ann.send(0, ' say "\\"\0\x1b\t '), ann.collect(0, 12)], [12, b' say "\\"\0\x1b\t '])
-        wanted(it.stop()[0], 0)
-        wanted(f"{raised(ann.rest, NoFarm)}", "the farm has ended the connection")
-    return "every verb"
+        assert [ann.send(0, "hé\n"), ann.write(0, b"\0\1"), ann.collect(0, 6)] == [4, 2, "hé\n".encode() + b"\0\1"]
+        assert [ann.send(0, ' say "\\"\0\x1b\t '), ann.collect(0, 12)] == [12, b' say "\\"\0\x1b\t ']
+        assert it.stop()[0] == 0
+        assert f"{raised(ann.rest, NoFarm)}" == "the farm has ended the connection"
 
 
-def scripts_are_refused(live, _):
+def test_scripts_are_refused() -> None:
     """What the farm refuses is raised with its word, and what is no word of a verb isn't sent."""
     limited = PLAN.replace("limit = 1000000\n", "limit = 40\n")
-    with lab(), Served(live, limited) as it, Farm(it.folder).user("ann") as ann, Farm(it.folder).user("bob") as bob:
+    with Served(limited) as it, Farm(it.folder).user("ann") as ann, Farm(it.folder).user("bob") as bob:
         rows = [
             (lambda: ann.look(1), "nosuch"),
             (lambda: ann.why(4), "nosuch"),
@@ -196,9 +190,9 @@ def scripts_are_refused(live, _):
             (lambda: ann.config(bytes(100)), "journalfull"),
         ]
         for call, word in rows:
-            wanted(raised(call, Refused).word, word)
+            assert raised(call, Refused).word == word
         full = raised(lambda: bob.write(0, b"abc"), Refused)
-        wanted((full.line, full.answer, full.taken, full.number), ("write 0 616263", "write 0 0", 0, None))
+        assert (full.line, full.answer, full.taken, full.number) == ("write 0 616263", "write 0 0", 0, None)
         for call in (
             lambda: ann.look(-1),
             lambda: ann.look(256),
@@ -215,7 +209,7 @@ def scripts_are_refused(live, _):
         for folder, name in ((it.folder, "zed"), (f"{it.folder}/none", "ann"), (it.plan, "ann")):
             raised(lambda: Farm(folder).user(name), NoFarm)
         many = [Farm(it.folder).user("cas") for _ in range(17)]
-        wanted(f"{raised(many[-1].rest, NoFarm)}", "16 connections are open, close one of them first")
+        assert f"{raised(many[-1].rest, NoFarm)}" == "16 connections are open, close one of them first"
         for one in many:
             one.close()
         with it.held_live() as number:
@@ -223,42 +217,41 @@ def scripts_are_refused(live, _):
             killing = threading.Timer(0.2, os.kill, (number, signal.SIGKILL))
             killing.start()
             lost = raised(lambda: ann.look(0), NotAnswered)
-        wanted(
-            (f"{late}", f"{lost}"),
-            ("look 0: no answer has come in 0.3 seconds", f"look 0: {LOST.removeprefix('error: ')}look 0"),
+        assert (f"{late}", f"{lost}") == (
+            "look 0: no answer has come in 0.3 seconds",
+            f"look 0: {LOST.removeprefix('error: ')}look 0",
         )
-        wanted(ann.why().events, 40)
-        wanted([note.text for note in ann.notes][-1], "note: the farm goes on")
-        wanted(it.stop()[0], 0)
-    return f"{len(rows)} refusals"
+        assert ann.why().events == 40
+        assert [note.text for note in ann.notes][-1] == "note: the farm goes on"
+        assert it.stop()[0] == 0
 
 
-def rooms_are_told_to_scripts(live, _):
+def test_rooms_are_told_to_scripts() -> None:
     """A machine that rests is told by a note, to a callback too, and a line that needs more than the room is refused as full."""
-    heard = []
-    with Served(live, PLAN, starts=False) as it:
+    heard: list[Any] = []
+    with Served(PLAN, starts=False) as it:
         it.start("--room", "1M")
         with Farm(it.folder).user("bob", heard.append) as bob:
             refused = raised(lambda: [bob.config(b"\x03" * 2000) for _ in range(100)], Refused)
-            wanted((refused.word, refused.answer), ("full", f"error {refused.number} full"))
-            wanted((bob.rest(), len(heard), heard == bob.notes), (Rest.QUIET, 1, True))
-            wanted((heard[0].text, heard[0].room), (f"note rests {heard[0].used} {1 << 20}", 1 << 20))
-        wanted(it.stop()[0], 0)
-    return f"line {refused.number} is refused"
+            assert (refused.word, refused.answer) == ("full", f"error {refused.number} full")
+            assert (bob.rest(), len(heard), heard == bob.notes) == (Rest.QUIET, 1, True)
+            assert (heard[0].text, heard[0].room) == (f"note rests {heard[0].used} {1 << 20}", 1 << 20)
+        assert it.stop()[0] == 0
 
 
-def slow_programs_are_waited_for(live, _):
+def test_slow_programs_are_waited_for() -> None:
     """A `collect` with a count or a time waits for a program that computes, and for what another client sends it."""
-    with lab(), Served(live, PLAN) as it, Farm(it.folder).user("bob") as bob:
-        with open(f"{it.room.name}/slow.s", "w", encoding="utf-8") as file:
-            file.write(SLOW)
+    with Served(PLAN) as it, Farm(it.folder).user("bob") as bob:
+        put(f"{it.room.name}/slow.s", SLOW)
         bob.join(0, 7)
         bob.load(0, f"{it.room.name}/slow.s")
-        wanted(
-            (bob.collect(0, count=1, seconds=SECONDS), bob.reset(0), bob.load(0, "echo")), (b"x", None, Loaded(14, 0))
+        assert (bob.collect(0, count=1, seconds=SECONDS), bob.reset(0), bob.load(0, "echo")) == (
+            b"x",
+            None,
+            Loaded(14, 0),
         )
         begun = time.monotonic()
-        wanted(bob.collect(0, count=3, seconds=0.3), b"")
+        assert bob.collect(0, count=3, seconds=0.3) == b""
         took = time.monotonic() - begun
         other = it.client("bob")
         sending = [
@@ -267,43 +260,40 @@ def slow_programs_are_waited_for(live, _):
         ]
         for one in sending:
             one.start()
-        wanted(bob.collect(0, count=3), b"abc")
-        sending = threading.Timer(0.1, other.say, ("write 0 7a\n",))
-        sending.start()
-        wanted(bob.collect(0, seconds=0.5), b"z")
+        assert bob.collect(0, count=3) == b"abc"
+        threading.Timer(0.1, other.say, ("write 0 7a\n",)).start()
+        assert bob.collect(0, seconds=0.5) == b"z"
         killing = threading.Timer(0.3, it.process.kill)
         other.say("write 0 79\n")
         killing.start()
-        wanted(raised(lambda: bob.collect(0, count=2), NoFarm).collected, b"y")
-    if not 0.3 <= took < 5:
-        raise AssertionError(f"0.3 seconds took {took:.2f}")
-    return f"0.3 seconds took {took:.2f}"
+        assert raised(lambda: bob.collect(0, count=2), NoFarm).collected == b"y"
+    assert 0.3 <= took < 5, f"0.3 seconds took {took:.2f}"
 
 
-def users_of_asyncio(live, _):
+def test_users_of_asyncio() -> None:
     """Sixteen users at once, each with two tasks over one connection, by asyncio."""
     names = [f"user-{it}" for it in range(16)]
 
-    async def use(farm, name):
+    async def use(farm: Farm, name: str) -> object:
         async with farm.async_user(name) as user:
             await user.join(0, 1)
-            wanted(await user.load(0, "echo"), Loaded(14, 0))
+            assert await user.load(0, "echo") == Loaded(14, 0)
             text = f"I am {name}\n"
             told, looks, _ = await asyncio.gather(user.collect(0, len(text), SECONDS), looked(user), user.send(0, text))
-            wanted((told, looks), (text.encode(), {State.IDLE}))
+            assert (told, looks) == (text.encode(), {State.IDLE})
             try:
                 await user.look(9)
             except Refused as refused:
                 return refused.word
         return None
 
-    async def looked(user):
+    async def looked(user: Any) -> set[State]:
         return {(await user.look(0)).state for _ in range(10)}
 
-    async def all_of_them(folder):
+    async def all_of_them(folder: str) -> set[object]:
         return {*await asyncio.gather(*(use(Farm(folder), name) for name in names))}
 
-    async def end(it):
+    async def end(it: Served) -> tuple[str, str] | None:
         async with Farm(it.folder).async_user(names[0], seconds=0.3) as user:
             with it.held_live():
                 try:
@@ -317,13 +307,12 @@ def users_of_asyncio(live, _):
                 return told, f"{error}"
         return None
 
-    with lab(), Served(live, plan_of_users(names)) as it:
-        wanted(asyncio.run(all_of_them(it.folder)), {"nosuch"})
-        wanted(asyncio.run(end(it)), ("rest: no answer has come in 0.3 seconds", "the farm has ended the connection"))
-    return f"{len(names)} users"
+    with Served(plan_of_users(names)) as it:
+        assert asyncio.run(all_of_them(it.folder)) == {"nosuch"}
+        assert asyncio.run(end(it)) == ("rest: no answer has come in 0.3 seconds", "the farm has ended the connection")
 
 
-def lines_behind_c(live, _):
+def test_lines_behind_c() -> None:
     """`connect -c` does the lines in their order, prints what a terminal would or JSON, and ends with the status of their answers."""
     why = [
         ("why 0", f"why {text}", None)
@@ -347,33 +336,24 @@ def lines_behind_c(live, _):
         (["-c", "#", "-c", "quit", "-c", "look 9"], 0, ""),
         (["--jso", "-c", "rest"], 2, "usage: connect"),
     ]
-    with lab(), Served(live, PLAN) as it:
+    with Served(PLAN) as it:
         env = {**os.environ, "HOME": "/nonexistent"}
 
-        def call(*words, text="", **more):
-            done = subprocess.run(
-                [f"{TOP}/connect", *words],
-                env={**env, **more},
-                input=text,
-                stdout=subprocess.PIPE,
-                stderr=subprocess.STDOUT,
-                encoding="utf-8",
-                timeout=SECONDS,
-                check=False,
-            )
+        def call(*words: str, text: str = "") -> tuple[int, str]:
+            done = run_together([f"{TOP}/connect", *words], text, env)
             return done.returncode, done.stdout
 
-        def objects(*words, status=0, text=""):
+        def objects(*words: str, status: int = 0, text: str = "") -> list[dict[str, Any]]:
             ended, told = call(it.folder, "ann", *words, "--json", text=text)
-            wanted((words, ended), (words, status))
+            assert (words, ended) == (words, status)
             return [json.loads(line) for line in told.splitlines()]
 
         for words, status, told in rows:
             ended, text = call(it.folder, "ann", *words)
-            wanted((words, ended, text[: len(told)]), (words, status, told))
-        wanted(call("-c", "look 0", it.folder, "ann"), (0, f"{LOOKED}\n"))
-        wanted([(row["line"], row["answer"], row["refused"]) for row in objects("-c", "why 0")], why)
-        told = objects(
+            assert (words, ended, text[: len(told)]) == (words, status, told)
+        assert call("-c", "look 0", it.folder, "ann") == (0, f"{LOOKED}\n")
+        assert [(row["line"], row["answer"], row["refused"]) for row in objects("-c", "why 0")] == why
+        rows_told = objects(
             "-c",
             "join 0 7",
             "-c",
@@ -388,21 +368,20 @@ def lines_behind_c(live, _):
             "lok",
             status=1,
         )
-        wanted(
-            [(row["line"], row["refused"], row.get("result")) for row in told],
-            [
-                ("join 0 7", None, ""),
-                ("load 0 long", None, 9),
-                ("collect 0", None, "2a000000"),
-                ("text 0", None, ""),
-                ("look 9", "nosuch", None),
-                ("lok", "wrong", None),
-            ],
-        )
-        wanted(
-            objects(text="look 0\n\nreset 0\n")[0]["result"],
-            {"state": "idle", "fault": None, "operation": None, "overruns": [0] * 4},
-        )
+        assert [(row["line"], row["refused"], row.get("result")) for row in rows_told] == [
+            ("join 0 7", None, ""),
+            ("load 0 long", None, 9),
+            ("collect 0", None, "2a000000"),
+            ("text 0", None, ""),
+            ("look 9", "nosuch", None),
+            ("lok", "wrong", None),
+        ]
+        assert objects(text="look 0\n\nreset 0\n")[0]["result"] == {
+            "state": "idle",
+            "fault": None,
+            "operation": None,
+            "overruns": [0] * 4,
+        }
         # lines that come through a pipe have the same statuses
         for line, status in (
             ("look 0", 0),
@@ -412,28 +391,16 @@ def lines_behind_c(live, _):
             ("collect 0", 0),
             ("foo", 1),
         ):
-            wanted((line, call(it.folder, "ann", text=f"{line}\n")[0]), (line, status))
-        wanted(
-            (call(it.folder, "zed", "-c", "rest")[0], call(f"{it.folder}/none", "ann")[0], call(it.folder)[0]),
-            (3, 3, 2),
+            assert (line, call(it.folder, "ann", text=f"{line}\n")[0]) == (line, status)
+        assert (call(it.folder, "zed", "-c", "rest")[0], call(f"{it.folder}/none", "ann")[0], call(it.folder)[0]) == (
+            3,
+            3,
+            2,
         )
         users = call(it.folder, "operator", "-c", "users", "-c", "memory")[1].splitlines()
-        wanted(
-            [line.split(" ")[:2] for line in users[:3]] + [users[3].split(" ")[0]],
-            [*(["!users", name] for name in ("ann", "bob", "cas")), "!memory"],
-        )
-        wanted(call(it.folder, "operator", "-c", "stop", "-c", "users"), (0, "note: the farm is stopped\n"))
-        wanted((it.process.wait(timeout=SECONDS), call(it.folder, "ann", "-c", "rest")[0]), (0, 3))
-    return f"{len(rows)} calls, and objects"
-
-
-TRIALS = (
-    tags_name_answers,
-    scripts_and_terminals_of_one_user,
-    verbs_have_results,
-    scripts_are_refused,
-    rooms_are_told_to_scripts,
-    slow_programs_are_waited_for,
-    users_of_asyncio,
-    lines_behind_c,
-)
+        assert [line.split(" ")[:2] for line in users[:3]] + [users[3].split(" ")[0]] == [
+            *(["!users", name] for name in ("ann", "bob", "cas")),
+            "!memory",
+        ]
+        assert call(it.folder, "operator", "-c", "stop", "-c", "users") == (0, "note: the farm is stopped\n")
+        assert (it.process.wait(timeout=SECONDS), call(it.folder, "ann", "-c", "rest")[0]) == (0, 3)

@@ -1,23 +1,18 @@
-#!/usr/bin/env -S python3 -B
-"""Tries `lab debug`: its commands on records made by hand, whose answers are worked by hand from docs/LAB.md, docs/DOMAIN.md and
+"""`lab debug`: its commands on records made by hand, whose answers are worked by hand from docs/LAB.md, docs/DOMAIN.md and
 docs/PROCESSOR.md; and on records of programs, where what it shows after the first N events is compared with what `lab replay`
-answers after them, and where it goes with a search through every event by this script.
+answers after them, and where it goes with a search through every event by this script."""
 
-usage: tests/debug [--short | TRIAL ..]    all trials if none is named; --short leaves out those of long records
-
-What differs is printed, and at the end how many trials are as expected. The status is 1 if one isn't. It takes half a minute."""
-import difflib
 import os
 import pty
 import re
 import signal
 import subprocess
-import sys
 import tempfile
 import time
 
-from recorded import HEAD, JOINED, NODE, ONE, SETTLE, TWO, assembled, boot, by_hand, lab, recorded
-from trials import TOP, built
+import pytest
+from support.recorded import HEAD, JOINED, NODE, ONE, SETTLE, TWO, assembled, boot, by_hand, lab, recorded
+from support.trials import LAB, program, put, text_of
 
 # Moves the workspace and loops for ever: b4 at 80000048, nfix 0 at 80000049 and j at 8000004a. W is 8000004c, and then 8000005c.
 LOOP = "b4600e"
@@ -104,11 +99,9 @@ def debugged(record, commands, words=(), files=None):
     """Status, standard output and standard error of `lab debug` on a record, given these commands."""
     with tempfile.TemporaryDirectory() as folder:
         path = os.path.join(folder, "ann.replay")
-        with open(path, "w", encoding="utf-8") as it:
-            it.write(record)
+        put(path, record)
         for name, text in (files or {}).items():
-            with open(os.path.join(folder, name), "w", encoding="utf-8") as it:
-                it.write(text)
+            put(os.path.join(folder, name), text)
         there = [os.path.join(folder, it) if it in (files or {}) else it for it in words]
         text = "".join(f"{it}\n" for it in commands).replace("FOLDER", folder)
         status, out, errors = lab(["debug", path, *there], text.encode())
@@ -123,23 +116,14 @@ def said(record, commands, words=(), files=None):
     return out.split("\n", 1)[1]
 
 
-TRIALS = {}
+def test_begins_at_the_end() -> None:
+    assert debugged(LOOPED, []) == (0, "after 1020 of 1020 events: step 0 @farm = ran\n", "")
 
 
-def trial(function):
-    TRIALS[function.__name__] = function
-    return function
-
-
-@trial
-def begins_at_the_end():
-    return debugged(LOOPED, []), (0, "after 1020 of 1020 events: step 0 @farm = ran\n", "")
-
-
-@trial
-def goes():
-    return (
-        said(LOOPED, ["go 20", "next", "back", "back 20", "next 5", "go 5000", "back 5000", "back", "next 9999"]),
+def test_goes() -> None:
+    assert said(
+        LOOPED, ["go 20", "next", "back", "back 20", "next 5", "go 5000", "back 5000", "back", "next 9999"]
+    ) == (
         """\
 after 20 of 1020 events: move 0 @farm = passed
 after 21 of 1020 events: step 0 @farm = ran
@@ -150,17 +134,15 @@ after 1020 of 1020 events: step 0 @farm = ran
 after 0 of 1020 events
 after 0 of 1020 events
 after 1020 of 1020 events: step 0 @farm = ran
-""",
+"""
     )
 
 
-@trial
-def lists_events():
-    return (
-        said(
-            LOOPED,
-            ["go 20", "events 19 2", "events 20", "events 1 1", "go 500", "events 500 1", "go 1020", "events 1020"],
-        ),
+def test_lists_events() -> None:
+    assert said(
+        LOOPED,
+        ["go 20", "events 19 2", "events 20", "events 1 1", "go 500", "events 500 1", "go 1020", "events 1020"],
+    ) == (
         """\
 after 20 of 1020 events: move 0 @farm = passed
   19: step 0 @farm = ran
@@ -174,15 +156,13 @@ after 500 of 1020 events: step 0 @farm = ran
 after 1020 of 1020 events: step 0 @farm = ran
   21-1020: 1000 times step 0 @farm = 1000 ran
 > the record ends
-""",
+"""
     )
 
 
-@trial
-def lists_events_around():
+def test_lists_events_around() -> None:
     """Five lines before the next one, and ten in all."""
-    return (
-        said(LOOPED, ["go 8", "events", "go 0", "events"]),
+    assert said(LOOPED, ["go 8", "events", "go 0", "events"]) == (
         """\
 after 8 of 1020 events: write 0 0e @0 = written
   4: config 03 @0 = nothing
@@ -206,12 +186,11 @@ after 0 of 1020 events
   8: write 0 0e @0 = written
   9: move 7 @farm = passed
   10: step 0 @farm = ran
-""",
+"""
     )
 
 
-@trial
-def until_an_address():
+def test_until_an_address() -> None:
     commands = [
         "go 0",
         "until node 0 at 8000004a",
@@ -226,8 +205,7 @@ def until_an_address():
         "back until node 0 at 80000048",
         "until node 0 at 9",
     ]
-    return (
-        said(LOOPED, commands),
+    assert said(LOOPED, commands) == (
         """\
 after 0 of 1020 events
 after 22 of 1020 events: step 0 @farm = ran
@@ -241,17 +219,15 @@ after 19 of 1020 events: step 0 @farm = ran
 there is no such event: after 19 of 1020 events: step 0 @farm = ran
 there is no such event: after 19 of 1020 events: step 0 @farm = ran
 there is no such event: after 19 of 1020 events: step 0 @farm = ran
-""",
+"""
     )
 
 
-@trial
-def until_a_jump():
+def test_until_a_jump() -> None:
     """The byte 0e at 8000004a, with the nfix 0 before it, is a jump back to 80000049: it is done in event 23 and each second one
     after it. The boot that led to 80000048 is none."""
     jump = "until jump of node 0"
-    return (
-        said(LOOPED, ["go 0", jump, jump, f"back {jump}", f"back {jump}", "go 1020", f"back {jump}", jump]),
+    assert said(LOOPED, ["go 0", jump, jump, f"back {jump}", f"back {jump}", "go 1020", f"back {jump}", jump]) == (
         """\
 after 0 of 1020 events
 after 23 of 1020 events: step 0 @farm = ran
@@ -261,15 +237,14 @@ there is no such event: after 23 of 1020 events: step 0 @farm = ran
 after 1020 of 1020 events: step 0 @farm = ran
 after 1019 of 1020 events: step 0 @farm = ran
 there is no such event: after 1019 of 1020 events: step 0 @farm = ran
-""",
+"""
     )
 
 
-@trial
-def until_a_write():
+def test_until_a_write() -> None:
     """The code's bytes come with events 13, 16 and 19; the counter's word changes with Steps 6, 11, 16 .. behind event 40."""
     there = "until write 80000064 of node 0"
-    return (
+    assert (
         said(LOOPED, ["go 0"] + 4 * ["until write 80000048 of node 0"] + 3 * ["back until write 8000004a of node 0"])
         + said(
             COUNTED,
@@ -283,7 +258,8 @@ def until_a_write():
                 f"back {there}",
                 "memory 0 80000064 1",
             ],
-        ),
+        )
+    ) == (
         """\
 after 0 of 1020 events
 after 13 of 1020 events: step 0 @farm = ran
@@ -301,15 +277,13 @@ there is no such event: after 46 of 1040 events: step 0 @farm = ran
 after 1040 of 1040 events: step 0 @farm = ran
 after 1036 of 1040 events: step 0 @farm = ran
 80000064  000000c7
-""",
+"""
     )
 
 
-@trial
-def until_a_byte():
+def test_until_a_byte() -> None:
     """The four bytes leave port 7 in events 9, 12, 15 and 18, and come to port 0. The packets of port 0 are acknowledges."""
-    return (
-        said(LOOPED, ["go 0"] + 5 * ["until byte 7"] + 4 * ["back until byte 0"] + ["until byte 3"]),
+    assert said(LOOPED, ["go 0"] + 5 * ["until byte 7"] + 4 * ["back until byte 0"] + ["until byte 3"]) == (
         """\
 after 0 of 1020 events
 after 9 of 1020 events: move 7 @farm = passed
@@ -322,19 +296,17 @@ after 12 of 1020 events: move 7 @farm = passed
 after 9 of 1020 events: move 7 @farm = passed
 there is no such event: after 9 of 1020 events: move 7 @farm = passed
 there is no such event: after 9 of 1020 events: move 7 @farm = passed
-""",
+"""
     )
 
 
-@trial
-def until_a_fault():
+def test_until_a_fault() -> None:
     """ajw 4, ldc 0, ldnl 0: the third Step faults. The boot message of 4 bytes takes 4 + 4 + 12 events."""
     record = by_hand("b44030", 2) + "0 step 0 @farm = fault 1\n0 look 0 @0 = halted 1 overruns 0 0 0 0\n"
-    return (
-        said(
-            record,
-            ["back until fault", "back until fault", "go 0", "until fault", "until fault", "look", "go 22", "look"],
-        ),
+    assert said(
+        record,
+        ["back until fault", "back until fault", "go 0", "until fault", "until fault", "look", "go 22", "look"],
+    ) == (
         """\
 after 23 of 24 events: step 0 @farm = fault 1
 there is no such event: after 23 of 24 events: step 0 @farm = fault 1
@@ -344,12 +316,11 @@ there is no such event: after 23 of 24 events: step 0 @farm = fault 1
 node 0 halted 1 overruns 0 0 0 0
 after 22 of 24 events: step 0 @farm = ran
 node 0 running overruns 0 0 0 0
-""",
+"""
     )
 
 
-@trial
-def until_a_loss():
+def test_until_a_loss() -> None:
     """The host's input drives nothing: its byte is lost. It is the sixth event, and the second loss the last."""
     record = ONE + "".join(
         f"0 {it}\n"
@@ -367,11 +338,10 @@ def until_a_loss():
             "look 0 @0 = booting overruns 0 0 0 0",
         )
     )
-    return (
-        said(
-            record,
-            ["go 0", "until lost", "until lost", "go 11", "back until lost", "until byte 7", "go 9", "until byte 7"],
-        ),
+    assert said(
+        record,
+        ["go 0", "until lost", "until lost", "go 11", "back until lost", "until byte 7", "go 9", "until byte 7"],
+    ) == (
         """\
 after 0 of 11 events
 after 10 of 11 events: move 7 @farm = lost
@@ -381,33 +351,31 @@ after 10 of 11 events: move 7 @farm = lost
 there is no such event: after 10 of 11 events: move 7 @farm = lost
 after 9 of 11 events: write 0 02 @0 = written
 after 10 of 11 events: move 7 @farm = lost
-""",
+"""
     )
 
 
-@trial
-def shows_nodes():
+def test_shows_nodes() -> None:
     """Behind the boot A and B are 0 and C is the channel of link 0; the first Step moves the workspace."""
     registers = "A 00000000 B 00000000 C 80000010 O"
     queue = "Front 80000000 Back 80000000 Error 0 HaltOnError 0 running 1"
-    return (
-        said(
-            LOOPED,
-            [
-                "go 9",
-                "look",
-                "registers 0",
-                "queue 0",
-                "go 20",
-                "registers 0",
-                "go 21",
-                "look",
-                "registers 0",
-                "queue 0",
-                "go 22",
-                "registers 0",
-            ],
-        ),
+    assert said(
+        LOOPED,
+        [
+            "go 9",
+            "look",
+            "registers 0",
+            "queue 0",
+            "go 20",
+            "registers 0",
+            "go 21",
+            "look",
+            "registers 0",
+            "queue 0",
+            "go 22",
+            "registers 0",
+        ],
+    ) == (
         f"""\
 after 9 of 1020 events: move 7 @farm = passed
 node 0 booting overruns 0 0 0 0
@@ -422,12 +390,11 @@ runs W 8000005c at 80000049
 none waits
 after 22 of 1020 events: step 0 @farm = ran
 registers Iptr 8000004a W 8000005c {registers} fffffff0 bytes 2 {queue}
-""",
+"""
     )
 
 
-@trial
-def shows_a_queue():
+def test_shows_a_queue() -> None:
     """ajw 8, ldc 2, ldlp -8, startp, and then j 0 without end: startp puts a process of workspace W - 32 that begins two bytes
     behind it into the queue. The code b4 .. is 48 42 60 18 60 fd?; startp is 0d of operate."""
     code = assembled("ajw 8\nldc 1\nldlp -8\nstartp\nloop: j loop")
@@ -435,17 +402,15 @@ def shows_a_queue():
     events = 4 + (size + 1) + 3 * (size + 1) + startp + 1
     w = (0x80000048 + size + 3) // 4 * 4 + 32
     begins = 0x80000048 + startp + 2
-    return (
-        said(by_hand(code, 100), [f"go {events}", "queue 0"]).split("\n", 1)[1],
+    assert said(by_hand(code, 100), [f"go {events}", "queue 0"]).split("\n", 1)[1] == (
         f"""\
 runs W {w:08x} at {0x80000048 + startp + 1:08x}
 waits W {w - 32:08x} at {begins:08x}
-""",
+"""
     )
 
 
-@trial
-def shows_memory():
+def test_shows_memory() -> None:
     """The code's bytes b4, 60 and 0e come with events 13, 16 and 19, the least significant byte first."""
     commands = [it for n in (12, 13, 16, 19) for it in (f"go {n}", "memory 0 80000048 1")]
     commands += [
@@ -456,7 +421,7 @@ def shows_memory():
         "memory 0 0 1",
     ]
     lines = said(LOOPED, commands).splitlines()
-    return [it for it in lines if not it.startswith("after")], [
+    assert [it for it in lines if not it.startswith("after")] == [
         "80000048  00000000",
         "80000048  000000b4",
         "80000048  000060b4",
@@ -471,12 +436,10 @@ def shows_memory():
     ]
 
 
-@trial
-def shows_code():
+def test_shows_code() -> None:
     """Zero bytes are j 0. Behind the prefix of event 22 the instruction that is next is still the one of two bytes."""
     rest = "".join(f"  {0x8000004b + n:08x}  00           j 0\n" for n in range(14))
-    return (
-        said(LOOPED, ["go 21", "code 0 80000048", "go 22", "code 0"]),
+    assert said(LOOPED, ["go 21", "code 0 80000048", "go 22", "code 0"]) == (
         f"""\
 after 21 of 1020 events: step 0 @farm = ran
   80000048  b4           ajw 4
@@ -484,12 +447,11 @@ after 21 of 1020 events: step 0 @farm = ran
 {rest}after 22 of 1020 events: step 0 @farm = ran
 > 80000049  60 0e        j -2
 {rest}  80000059  00           j 0
-""",
+"""
     )
 
 
-@trial
-def shows_labels():
+def test_shows_labels() -> None:
     """Labels are taken as addresses, and lines of the program stand beside the code. The word that counts is at 80000064."""
     commands = [
         "program 0 FOLDER/counter.s",
@@ -517,11 +479,10 @@ no label `nowhere` is known of node 0 (def and local name no labels, and an addr
 8000004b  60d18171 00000b
 """
     wanted = wanted.replace("8000004b  60d18171 00000b\n", "80000048  71d140b4\n")
-    return (shown, by_words), (wanted, wanted)
+    assert (shown, by_words) == (wanted, wanted)
 
 
-@trial
-def stops_at_lines_of_occam():
+def test_stops_at_lines_of_occam() -> None:
     """Before the first instruction of a line's code, in each turn of a loop, and on the way back. A line of a text of assembly is one
     too, and a label may have the name `line`."""
     turns = [240 + 22 + 19 * it for it in range(3)]
@@ -555,7 +516,7 @@ def stops_at_lines_of_occam():
         "is no number that fits there: try until node K at ADDR, until node K at line L, until jump of node K, until fault, "
         "until byte PORT, until write ADDR of node K, or until lost"
     )
-    return (shown.splitlines(), assembled_one, none), (
+    assert (shown.splitlines(), assembled_one, none) == (
         [
             *told,
             "line 6 has no code in the program of node 0: the next that has is line 7",
@@ -574,8 +535,7 @@ after 48 of 1040 events: step 0 @farm = ran
     )
 
 
-@trial
-def stops_in_each_instance():
+def test_stops_in_each_instance() -> None:
     """Both instances begin with the code of line 5, at 8000004b and at 80000055. Without an acknowledge the process waits in the first
     one, at 8000004f; the ports are joined by the host's."""
     text = "CHAN OF BYTE to:\nPLACE to AT link0.out:\nPROC two (VAL BYTE letter)\n  SEQ\n    to ! letter\n    to ! letter\n:\n"
@@ -590,7 +550,7 @@ def stops_in_each_instance():
     ]
     shown = said(record, commands, words=["--program", "0", "two.occ"], files={"two.occ": text}).splitlines()
     rows = [it for it in shown if it.startswith("> ")]
-    return (rows, [it for it in shown if it.startswith("there")][0][:23], shown[-1][:5]), (
+    assert (rows, [it for it in shown if it.startswith("there")][0][:23], shown[-1][:5]) == (
         [
             "> 8000004b  24 f2        mint                  line 5 (9)    to ! letter",
             "> 80000055  24 f2        mint                  line 5 (10)   to ! letter",
@@ -600,8 +560,7 @@ def stops_in_each_instance():
     )
 
 
-@trial
-def shows_lines_of_occam():
+def test_shows_lines_of_occam() -> None:
     """The end of a loop belongs to the line of SEQ, and what ends the program to none."""
     shown = said(
         TYPED,
@@ -610,8 +569,7 @@ def shows_lines_of_occam():
         files={"types.occ": TYPES},
     )
     zeros = "".join(f"  {0x80000082 + n:08x}  00           j 0\n" for n in range(13))
-    return (
-        shown,
+    assert shown == (
         f"""\
 after 300 of 336 events: step 0 @farm = ran
   8000006b  e0           stnl 0                line 11       squares[i] := i * i
@@ -633,12 +591,11 @@ after 300 of 336 events: step 0 @farm = ran
   8000007e  41           ldc 1                 line 13       is.done := TRUE
   8000007f  d3           stl 3                 line 13       is.done := TRUE
   80000080  21 f5        stopp
-{zeros}""",
+{zeros}"""
     )
 
 
-@trial
-def shows_variables():
+def test_shows_variables() -> None:
     """Each type, whole arrays, and those of one name. Four of the five bytes of word are 0."""
     commands = [
         "variables 0",
@@ -650,8 +607,7 @@ def shows_variables():
         "go 0",
         "variables 0 letter",
     ]
-    return (
-        said(TYPED, commands, words=["--program", "0", "types.occ"], files={"types.occ": TYPES}),
+    assert said(TYPED, commands, words=["--program", "0", "types.occ"], files={"types.occ": TYPES}) == (
         """\
 80000094  INT total (line 1): -5
 80000098  BYTE letter (line 2): 104 'h'
@@ -666,12 +622,11 @@ after 255 of 336 events: step 0 @farm = ran
 800000a0  [3]INT squares (line 4): [0, 0, 0]
 after 0 of 336 events
 80000098  BYTE letter (line 2): 0
-""",
+"""
     )
 
 
-@trial
-def shows_what_the_next_step_finds():
+def test_shows_what_the_next_step_finds() -> None:
     """A byte that came to a link, and is served by the Step that goes on at line 6, is in its variable. Line 5 is ldc 0 at 8000004b, stl 1,
     ldlp 1, mint (24 f2), ldnlp 4, ldc 1 and in, and line 6 ldc 42 (22 4a) and stl 1. The code ends at 80000058: W is 80000058, and then
     80000064. A star is written `**`, as in a text of occam."""
@@ -692,15 +647,14 @@ def shows_what_the_next_step_finds():
         words=["--program", "0", "one.occ"],
         files={"one.occ": text},
     )
-    return [it for it in shown.splitlines() if it.startswith("8")], [
+    assert [it for it in shown.splitlines() if it.startswith("8")] == [
         "80000068  00000000",
         "80000068  BYTE letter (line 3): 10 '*n'",
         "80000068  BYTE letter (line 3): 42 '**'",
     ]
 
 
-@trial
-def shows_long_arrays():
+def test_shows_long_arrays() -> None:
     """64 elements, unless it is asked for by its name; an element that the line of a loop stores to is counted by hand: a[0] is word 1.
     ajw 3, sethalterr, and for a[0] := 9 ldc 9 and stl 1: W is 80000048 and 7 bytes, 80000050, and then 8000005c."""
     text = "[70]INT a:\na[0] := 9\n"
@@ -710,7 +664,7 @@ def shows_long_arrays():
         words=["--program", "0", "a.occ"],
         files={"a.occ": text},
     ).splitlines()
-    return shown, [
+    assert shown == [
         f"80000060  [70]INT a (line 1): [9{', 0' * 63}, ..]",
         f"80000060  [70]INT a (line 1): [9{', 0' * 69}]",
         "there is no such event: after 43 of 43 events: step 0 @farm = ran",
@@ -718,8 +672,7 @@ def shows_long_arrays():
     ]
 
 
-@trial
-def takes_names_as_addresses():
+def test_takes_names_as_addresses() -> None:
     """total becomes -5 by the 6th Step; squares[2] 4 by the 14th byte of the third turn. The fifth byte of word is in its second word."""
     commands = [
         "go 240",
@@ -733,8 +686,7 @@ def takes_names_as_addresses():
         "until write squares[x] of node 0",
         "until write nothing of node 0",
     ]
-    return (
-        said(TYPED, commands, words=["--program", "0", "types.occ"], files={"types.occ": TYPES}),
+    assert said(TYPED, commands, words=["--program", "0", "types.occ"], files={"types.occ": TYPES}) == (
         """\
 after 240 of 336 events: move 0 @farm = passed
 after 246 of 336 events: step 0 @farm = ran
@@ -746,20 +698,18 @@ after 332 of 336 events: step 0 @farm = ran
 `squares` has no element of this subscript
 `squares` has no element of this subscript
 no variable `nothing` is known of node 0: try variables 0
-""",
+"""
     )
 
 
-@trial
-def takes_programs_that_are_poked():
+def test_takes_programs_that_are_poked() -> None:
     """Code of more than 255 bytes begins at 80000050, where it is poked: 3 bytes, 53 assignments of 5 bytes (ldc 4660 has four), and
     stopp. So the last assignment, of line 55, is at 80000157, the code ends at 8000015e, and W is 80000160, and then 8000016c.
     """
     text = "INT x:\nSEQ\n" + "  x := 4660\n" * 52 + "  x := 4661\n"
     with tempfile.TemporaryDirectory() as folder:
         for name, it in (("long.occ", text), ("long.farm", ONE + "ann join 0 7\nann load 0 long.occ\nann look 0\n")):
-            with open(os.path.join(folder, name), "w", encoding="utf-8") as file:
-                file.write(it)
+            put(os.path.join(folder, name), it)
         record = lab(["run", os.path.join(folder, "long.farm"), "--record", "0"])[1]
     shown = said(
         record,
@@ -767,35 +717,32 @@ def takes_programs_that_are_poked():
         words=["--program", "0", "long.occ"],
         files={"long.occ": text},
     ).splitlines()
-    return [it for it in shown if it.startswith(("8", ">"))], [
+    assert [it for it in shown if it.startswith(("8", ">"))] == [
         "80000170  INT x (line 1): 4661",
         "> 80000157  21 22 23 45  ldc 4661              line 55       x := 4661",
     ]
 
 
-@trial
-def names_of_several_variables():
+def test_names_of_several_variables() -> None:
     """Two instances have a variable of one name each, words 1 and 2; the code doesn't matter, and the node isn't booted."""
     text = "PROC p ()\n  INT x:\n  x := 1\n:\nSEQ\n  p ()\n  p ()\n"
     # ajw 3, sethalterr, two times ldc 1 and stl, stopp: 9 bytes, W is 80000054, and then 80000060
-    return (
-        said(
-            LOOPED,
-            ["go 0", "variables 0", "until write x of node 0"],
-            words=["--program", "0", "p.occ"],
-            files={"p.occ": text},
-        ),
+    assert said(
+        LOOPED,
+        ["go 0", "variables 0", "until write x of node 0"],
+        words=["--program", "0", "p.occ"],
+        files={"p.occ": text},
+    ) == (
         """\
 after 0 of 1020 events
 80000064  INT x (line 2): 0
 80000068  INT x (line 2): 0
 `x` is the name of 2 variables: give the address of one, as variables 0 x shows it
-""",
+"""
     )
 
 
-@trial
-def shows_who_waits_at_channels():
+def test_shows_who_waits_at_channels() -> None:
     """c is a channel from the 6th Step on. The sender comes there at the 26th, and the receiver takes the 5 at the 30th, and waits again
     at the 34th. So the join, by the two Steps of the sender's end, waits for one process."""
     commands = [
@@ -807,8 +754,7 @@ def shows_who_waits_at_channels():
         "why",
     ]
     waits = "800000a8  CHAN c (line 1): a process waits in line"
-    return (
-        said(TALKED, commands, words=["--program", "0", "channel.occ"], files={"channel.occ": CHANNEL}),
+    assert said(TALKED, commands, words=["--program", "0", "channel.occ"], files={"channel.occ": CHANNEL}) == (
         f"""\
 after 176 of 212 events: move 0 @farm = passed
 800000a8  CHAN c (line 1): no channel yet, but 00000000
@@ -827,17 +773,15 @@ node 0 rests.
   The process at 8000006b waits in `in` at channel 800000a8 in its memory.
   No other process is left that could come there: a deadlock.
 node 0 at 8000006b waits in line 7: c ? x
-""",
+"""
     )
 
 
-@trial
-def traces():
+def test_traces() -> None:
     """Steps with their labels and lines, packets with their ports, and others as they are recorded; of a node its own alone."""
     commands = ["trace 2", "go 37", "trace 1", "go 39", "trace 1", "trace 5 0", "go 3", "trace 2 0", "trace 1 7"]
     shown = said(COUNTED, ["go 3", *commands], words=["--program", "0", "counter.s"], files={"counter.s": COUNTER_TEXT})
-    return (
-        shown,
+    assert shown == (
         """\
 after 3 of 1040 events: config 07 @0 = nothing
 config 03 @0 = nothing
@@ -858,17 +802,15 @@ after 45 of 1040 events: step 0 @farm = ran
 after 3 of 1040 events: config 07 @0 = nothing
 after 5 of 1040 events: write 0 08 @0 = written
 there is no node 7: look lists them
-""",
+"""
     )
 
 
-@trial
-def shows_links_and_hosts():
+def test_shows_links_and_hosts() -> None:
     """Event 9 moves the byte 03 to the node, whose Step takes it and acknowledges. A byte counts until its acknowledge came."""
     rest = "awaits 0 acknowledged 0 input 00000000 0 output 00000000 0 watched 0"
     others = "".join(f"link {n} sends - acknowledges 0 holds - overruns 0 {rest}\n" for n in (1, 2, 3))
-    return (
-        said(LOOPED, ["go 8", "hosts", "go 9", "links 0", "hosts", "go 10", "links 0", "go 11", "hosts"]),
+    assert said(LOOPED, ["go 8", "hosts", "go 9", "links 0", "hosts", "go 10", "links 0", "go 11", "hosts"]) == (
         f"""\
 after 8 of 1020 events: write 0 0e @0 = written
 host 0 of ann: to send 03b4600e, received -, waits to leave: byte 03
@@ -879,14 +821,12 @@ after 10 of 1020 events: step 0 @farm = ran
 link 0 sends - acknowledges 1 holds - overruns 0 {rest}
 {others}after 11 of 1020 events: move 0 @farm = passed
 host 0 of ann: to send b4600e, received -, waits to leave: byte b4
-""",
+"""
     )
 
 
-@trial
-def shows_the_switch():
-    return (
-        said(LOOPED, ["go 2", "switch", "go 3", "switch", "go 4", "switch"]),
+def test_shows_the_switch() -> None:
+    assert said(LOOPED, ["go 2", "switch", "go 3", "switch", "go 4", "switch"]) == (
         """\
 after 2 of 1020 events: config 00 @0 = nothing
 no output is driven
@@ -896,12 +836,11 @@ output 7 (host 0 of ann): input 0 (node 0, link 0), not ready
 after 4 of 1020 events: config 03 @0 = nothing
 output 0 (node 0, link 0): input 7 (host 0 of ann), ready
 output 7 (host 0 of ann): input 0 (node 0, link 0), ready
-""",
+"""
     )
 
 
-@trial
-def wrong_commands():
+def test_wrong_commands() -> None:
     until = "until node K at ADDR, until node K at line L, until jump of node K, until fault, until byte PORT, until write ADDR of node K, or until lost"
     rows = [
         ("", ""),
@@ -945,41 +884,35 @@ def wrong_commands():
         ("x" * 5000, "a command has at most 4096 bytes"),
         ("quit now", "`now` can't stand there: try quit"),
     ]
-    return said(LOOPED, [it for it, _ in rows]), "".join(f"{it}\n" for _, it in rows if it)
+    assert said(LOOPED, [it for it, _ in rows]) == "".join(f"{it}\n" for _, it in rows if it)
 
 
-@trial
-def quits():
+def test_quits() -> None:
     """What stands behind `quit` isn't read, and the last command needs no line feed."""
-    return (said(LOOPED, ["go 1", "quit", "go 2"]), said(LOOPED, []), said(by_hand(LOOP, 2), ["go 0"]).count("\n")), (
+    assert (said(LOOPED, ["go 1", "quit", "go 2"]), said(LOOPED, []), said(by_hand(LOOP, 2), ["go 0"]).count("\n")) == (
         "after 1 of 1020 events: config 01 @0 = nothing\n",
         "",
         1,
     )
 
 
-@trial
-def bytes_that_are_no_text():
+def test_bytes_that_are_no_text() -> None:
     with tempfile.NamedTemporaryFile(suffix=".replay") as it:
         it.write(LOOPED.encode())
         it.flush()
-        run = subprocess.run(
-            [built("lab"), "debug", it.name], input=b"\xff\xfe\ngo 3", capture_output=True, check=False
-        )
-    return (
-        run.stdout.decode().split("\n", 1)[1],
+        run = subprocess.run([LAB, "debug", it.name], input=b"\xff\xfe\ngo 3", capture_output=True, check=False)
+    assert run.stdout.decode().split("\n", 1)[1] == (
         """\
 a command is a text in UTF-8
 after 3 of 1020 events: config 07 @0 = nothing
-""",
+"""
     )
 
 
-@trial
-def helps():
+def test_helps() -> None:
     """Each command of docs/LAB.md has a line."""
     first = [it.split()[0].rstrip(":") for it in said(LOOPED, ["help"]).splitlines()[:-1]]
-    return sorted(first), sorted(
+    assert sorted(first) == sorted(
         [
             "events",
             "go",
@@ -1004,29 +937,26 @@ def helps():
     )
 
 
-@trial
-def prompts_on_a_terminal():
+def test_prompts_on_a_terminal() -> None:
     """The number of events stands before each command."""
     with tempfile.NamedTemporaryFile(suffix=".replay") as it:
         it.write(LOOPED.encode())
         it.flush()
         ours, theirs = pty.openpty()
-        run = subprocess.Popen([built("lab"), "debug", it.name], stdin=theirs, stdout=subprocess.PIPE)
+        run = subprocess.Popen([LAB, "debug", it.name], stdin=theirs, stdout=subprocess.PIPE)
         os.write(ours, b"go 7\nquit\n")
         out = run.communicate(timeout=60)[0].decode()
         os.close(theirs)
         os.close(ours)
-    return (
-        out,
+    assert out == (
         """\
 after 1020 of 1020 events: step 0 @farm = ran
 1020> after 7 of 1020 events: write 0 60 @0 = written
-7> """,
+7> """
     )
 
 
-@trial
-def refuses_what_is_no_record():
+def test_refuses_what_is_no_record() -> None:
     verbs = (
         "config, configs, write, writes, read, reset, look, step, move, moves, word, quiet, recorded, journal, restart, checkout, "
         "burst, commit or settle"
@@ -1042,7 +972,7 @@ def refuses_what_is_no_record():
         ONE.replace("7]]", "77]]"),
         ONE + "1 look 0 @0\n",
     )
-    return [debugged(it, ["look"]) for it in records], [
+    assert [debugged(it, ["look"]) for it in records] == [
         (
             4,
             "",
@@ -1055,8 +985,7 @@ def refuses_what_is_no_record():
     ]
 
 
-@trial
-def refuses_wrong_words():
+def test_refuses_wrong_words() -> None:
     """The words of the command line, and files that aren't there."""
     rows = [debugged(LOOPED, [], words=words) for words in (["--program", "x", "a.s"], ["--program", "256", "a.s"])]
     missing = debugged(LOOPED, ["go 1"], words=["--program", "0", "nowhere.s"])
@@ -1068,7 +997,7 @@ def refuses_wrong_words():
         "after 1020 of 1020 events: step 0 @farm = ran\n",
         "after 1 of 1020 events: config 01 @0 = nothing\n",
     )
-    return (rows, missing, no_node, status, out, "nowhere.replay" in errors, alone), (
+    assert (rows, missing, no_node, status, out, "nowhere.replay" in errors, alone) == (
         [wrong, wrong],
         (0, f"`nowhere.s` can't be read\n{at_end}{at_one}", ""),
         (0, f"there is no node 5: look lists them\n{at_end}{at_one}", ""),
@@ -1079,8 +1008,7 @@ def refuses_wrong_words():
     )
 
 
-@trial
-def a_program_with_a_fault():
+def test_a_program_with_a_fault() -> None:
     """It is told as `lab assemble` tells it, and of occam as `lab occam` does; and the program that was there stays."""
     bad = "ajw 4\nloop: jump loop\n"
     shown = said(
@@ -1095,29 +1023,25 @@ def a_program_with_a_fault():
         files={"good.s": COUNTER_TEXT, "bad.s": bad, "bad.occ": "x := 1\n"},
     )
     told = lab(["assemble"], bad.encode())[2]
-    return (
-        shown,
+    assert shown == (
         f"""\
 {told}line 1, column 1: fault 16: expected a name that is declared, not "x"
 after 43 of 1040 events: step 0 @farm = ran
 after 48 of 1040 events: step 0 @farm = ran
-""",
+"""
     )
 
 
-@trial
-def torn():
-    return (
-        debugged(LOOPED + "0 write 0 0", [])[1],
+def test_torn() -> None:
+    assert debugged(LOOPED + "0 write 0 0", [])[1] == (
         """\
 The last line is cut, and was left out.
 after 1020 of 1020 events: step 0 @farm = ran
-""",
+"""
     )
 
 
-@trial
-def cut_anywhere():
+def test_cut_anywhere() -> None:
     """Of a record that is cut as much is shown as `lab why` does again of it, or it is refused as there."""
     shown, wanted = [], []
     for place in [*range(0, len(LOOPED), 41), *range(len(LOOPED) - 60, len(LOOPED) + 1)]:
@@ -1130,7 +1054,7 @@ def cut_anywhere():
             status, out, errors = lab(["why", it.name])
             counted = re.search(r"^after (\d+) events", out)
             wanted.append((status, errors, counted and (counted[1], counted[1]), "The last line is cut" in out))
-    return shown, wanted
+    assert shown == wanted
 
 
 def event_lines(record):
@@ -1184,23 +1108,23 @@ def same_as_replay(record, counts, nodes):
     return shown, wanted
 
 
-@trial
-def states_are_those_of_replay():
+def test_states_are_those_of_replay() -> None:
     """After each tenth event, and those around the end, forwards and back."""
     record = recorded(
         ONE, [JOINED, boot(ECHO), SETTLE] + ["0 write 0 41", SETTLE, "0 read 0"] * 3 + ["0 configs 0507", SETTLE]
     )
     events = len(list(event_lines(record)))
     counts = [*range(0, events, 10), events - 1, events, *range(events, 0, -37)]
-    return same_as_replay(record, counts, 1)
+    seen, wanted = same_as_replay(record, counts, 1)
+    assert seen == wanted
 
 
-@trial
-def states_of_two_nodes():
+def test_states_of_two_nodes() -> None:
     lines = ["0 configs 01020703", boot("ajw 4\nstopp"), SETTLE, "0 configs 0502050701000701010203"]
     record = recorded(TWO, [*lines, boot("ajw 4\nmint\nldnlp 1\nldc 42\noutbyte\nstopp"), SETTLE])
     events = len(list(event_lines(record)))
-    return same_as_replay(record, [*range(0, events, 7), events], 2)
+    seen, wanted = same_as_replay(record, [*range(0, events, 7), events], 2)
+    assert seen == wanted
 
 
 def peeked(record, count, address):
@@ -1213,8 +1137,7 @@ def peeked(record, count, address):
     return "".join(reversed(answers[-4:]))
 
 
-@trial
-def words_are_those_of_peeks():
+def test_words_are_those_of_peeks() -> None:
     """The counter's word and the first of its code, whenever the node is peeked."""
     message = [JOINED, f"0 writes 0 08{COUNTER}", SETTLE, "500 times 0 step 0"]
     record = recorded(TWO_HOSTS, message[:2] + ["0 settle 256 30", message[3]])
@@ -1222,11 +1145,10 @@ def words_are_those_of_peeks():
     counts = [0, 9, 20, 30, 36, 41, 60, 99, events - 100, events - 1, events]
     commands = [it for n in counts for it in (f"go {n}", "memory 0 80000048 1", "memory 0 80000064 1")]
     shown = [it.split()[1] for it in said(record, commands).splitlines() if not it.startswith("after")]
-    return shown, [peeked(record, n, address) for n in counts for address in (0x80000048, 0x80000064)]
+    assert shown == [peeked(record, n, address) for n in counts for address in (0x80000048, 0x80000064)]
 
 
-@trial
-def finds_what_a_search_finds():
+def test_finds_what_a_search_finds() -> None:
     """Every place to which `until` and `back until` go in an echo's record, beside a search in what is shown after each event."""
     record = recorded(ONE, [JOINED, boot(ECHO), SETTLE] + ["0 write 0 41", SETTLE, "0 read 0"] * 2)
     lines = record.split("---\n")[1].splitlines()
@@ -1254,7 +1176,7 @@ def finds_what_a_search_finds():
     changes = [int(it.split()[1]) for it in forwards if it.startswith("after ")]
     moves = all(numbers.get(n, "").startswith("0 move") for n in found[1:])
     # The boot message and two bytes go to the node, and two come back.
-    return (changes[1:], len(found) - 1, again, moves), (
+    assert (changes[1:], len(found) - 1, again, moves) == (
         changed,
         code + 1 + 2 + 2,
         found[:0:-1] if found[-1] != events else found[-2:0:-1],
@@ -1262,8 +1184,7 @@ def finds_what_a_search_finds():
     )
 
 
-@trial
-def causes_are_those_of_why():
+def test_causes_are_those_of_why() -> None:
     """`why` says what `lab why` says at the same event."""
     record = recorded(
         TWO, ["0 configs 01020703", boot("ajw 4\nstopp"), SETTLE, "0 configs 05020507010007", boot(ECHO), SETTLE]
@@ -1281,34 +1202,31 @@ def causes_are_those_of_why():
             wanted.append(
                 "".join(line for line in wanted[-1].splitlines(keepends=True) if not line.startswith("Since"))
             )
-    return shown, wanted
+    assert shown == wanted
 
 
-@trial
-def records_of_live():
+def test_records_of_live() -> None:
     """A record that `live` wrote ends where its user's last look said."""
     plan = ONE.split("---\n")[0]
     code = assembled("ajw 4\nstopp")
     with tempfile.TemporaryDirectory() as folder:
-        with open(f"{folder}/plan", "w", encoding="utf-8") as it:
-            it.write(plan)
+        put(f"{folder}/plan", plan)
         script = f"ann config 01000703\nann boot 0 {code}\nann look 0\n"
         run = subprocess.run(
-            [built("live"), "--record", f"{folder}/records", f"{folder}/plan"],
+            [program("live"), "--record", f"{folder}/records", f"{folder}/plan"],
             input=script.encode(),
             capture_output=True,
             check=True,
         )
-        with open(f"{folder}/records/ann.replay", encoding="utf-8") as it:
-            record = it.read()
+        record = text_of(f"{folder}/records/ann.replay")
     seen = run.stdout.decode().splitlines()[-1].removeprefix("ann look 0 ")
-    return said(record, ["look", "go 0", "look"]).splitlines()[::2], [
+    assert said(record, ["look", "go 0", "look"]).splitlines()[::2] == [
         f"node 0 {seen}",
         "node 0 booting overruns 0 0 0 0",
     ]
 
 
-def measured(record, commands):
+def measured(record: str, commands: list[str]) -> tuple[float, float, str]:
     """Seconds, megabytes and the answers of `lab debug` given these commands."""
     with tempfile.NamedTemporaryFile(
         suffix=".replay"
@@ -1318,9 +1236,7 @@ def measured(record, commands):
         asked.write("".join(f"{command}\n" for command in commands).encode())
         asked.seek(0)
         begin = time.monotonic()
-        run = subprocess.Popen(
-            [built("lab"), "debug", it.name], stdin=asked, stdout=out, preexec_fn=lambda: signal.alarm(300)
-        )
+        run = subprocess.Popen([LAB, "debug", it.name], stdin=asked, stdout=out, preexec_fn=lambda: signal.alarm(300))
         status, usage = os.wait4(run.pid, 0)[1:]
         seconds = time.monotonic() - begin
         run.returncode = status
@@ -1328,8 +1244,8 @@ def measured(record, commands):
         return seconds, usage.ru_maxrss / 1024, out.read().decode()
 
 
-def is_quick(record, events, opens, back, goes):
-    """How a record is opened, how long steps back and jumps take in it, and whether that is within these seconds."""
+def check_quick(record: str, events: int, opens: float, back: float, goes: float) -> None:
+    """A record is opened, and steps back and jumps in it are done, within these seconds."""
     opened, megabytes, _ = measured(record, [])
     places = [events * part // 17 for part in (3, 16, 1, 9, 12, 5, 14, 2, 11, 7)]
     jumps = measured(record, [f"go {it}" for it in places])[0] - opened
@@ -1337,46 +1253,27 @@ def is_quick(record, events, opens, back, goes):
     for place in places[:4]:
         there = measured(record, [f"go {place}"])[0]
         steps = max(steps, (measured(record, [f"go {place}", *["back"] * 20])[0] - there) / 20)
-    said_so = (
-        f"opened in {opened:.2f} s with {megabytes:.0f} MB, a step back {1000 * steps:.1f} ms, "
-        f"a jump {1000 * jumps / len(places):.0f} ms"
-    )
-    print(said_so)
-    return opened < opens and megabytes < 1000 and steps < back and jumps / len(places) < goes
+    assert opened < opens
+    assert megabytes < 1000
+    assert steps < back
+    assert jumps / len(places) < goes
 
 
-# The trials that take long, and tell how quick the debugger is.
-MEASURED = ("a_million_events", "a_thousand_million_steps")
-
-
-@trial
-def a_million_events():
+@pytest.mark.long
+@pytest.mark.alone
+def test_a_million_events() -> None:
     """An echo of many bytes: Moves, Steps, writes and reads, each on its line."""
     loops = 66000
     record = recorded(ONE, [JOINED, boot(ECHO), SETTLE] + ["0 write 0 41", "0 settle 1 100", "0 read 0"] * loops)
     events = len(list(event_lines(record)))
     lines = record.count("\n")
-    return (events > 1000000, lines > 500000, is_quick(record, events, 10, 0.05, 0.5)), (True, True, True)
+    assert events > 1000000
+    assert lines > 500000
+    check_quick(record, events, 10, 0.05, 0.5)
 
 
-@trial
-def a_thousand_million_steps():
+@pytest.mark.long
+@pytest.mark.alone
+def test_a_thousand_million_steps() -> None:
     record = by_hand(LOOP, 10**9)
-    return is_quick(record, 10**9, 10, 0.5, 0.5), True
-
-
-def main(names):
-    wrong = 0
-    names = [it for it in TRIALS if it not in MEASURED] if names == ["--short"] else names
-    for name in names or TRIALS:
-        seen, wanted = TRIALS[name]()
-        if seen != wanted:
-            wrong += 1
-            lines = [str(it).splitlines(keepends=True) for it in (wanted, seen)]
-            print(f"{name}: differs\n" + "".join(difflib.unified_diff(*lines, "expected", "printed")))
-    print(f"{len(names or TRIALS)} trials, {wrong} wrong")
-    return 1 if wrong else 0
-
-
-if __name__ == "__main__":
-    sys.exit(main(sys.argv[1:]))
+    check_quick(record, 10**9, 10, 0.5, 0.5)
