@@ -15,6 +15,8 @@ def pytest_addoption(parser: pytest.Parser) -> None:
     group.addoption("--count", type=int, help="how many random texts, programs, lines or kills a test tries")
     group.addoption("--seed", type=int, default=1, help="the seed of what is random (1)")
     group.addoption("--minutes", type=float, default=1.0, help="how long a test that runs for some time goes on (1)")
+    group.addoption("--with-feature", action="append", default=[], help="what occam programs have besides (pieces.py)")
+    group.addoption("--without-feature", action="append", default=[], help="what occam programs don't have")
     group.addoption("--workers", default="2", help="by how many workers `live` does its work (2)")
 
 

@@ -614,7 +614,7 @@ def test_class_says_what_is_wrong(folder: str) -> None:
     )
     for words, told in REFUSED:
         done = call(words)
-        told = told.format(folder=os.path.realpath(folder), orders=ORDERS)
+        told = told.format(room=os.path.realpath(folder), orders=ORDERS)
         assert (done.returncode, done.stdout, done.stderr) == (1, "", f"class: {told}\n")
     with open(f"{folder}/spelled.txt", "w", encoding="utf-8-sig") as file:
         file.write("".join(f"{person}\n" for person, *_ in SPELLED))

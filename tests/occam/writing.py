@@ -2,9 +2,9 @@
 well. Each ends with a message that is known, or halts, or waits."""
 import random
 
-from occam_arrays import Arrays
-from occam_expressions import KEYWORDS
-from occam_pieces import (
+from occam.arrays import Arrays
+from occam.expressions import KEYWORDS
+from occam.pieces import (
     EDGES,
     FEATURES,
     LAST,
@@ -20,8 +20,8 @@ from occam_pieces import (
     WEIGHTS,
     WHOLE,
 )
-from occam_procedures import Procedures
-from occam_values import BOOL, BYTE, INT, MOST_NEGATIVE, MOST_POSITIVE, wrapped
+from occam.procedures import Procedures
+from occam.values import BOOL, BYTE, INT, MOST_NEGATIVE, MOST_POSITIVE, wrapped
 
 
 class Writer(Arrays, Procedures):

@@ -3,11 +3,11 @@ between them. Each answer is the same however the components take turns."""
 import contextlib
 from dataclasses import dataclass
 
-from occam_networks import Networks
-from occam_pieces import FEATURES, Proc, Variable
-from occam_writing import Writer
-from occam_traces import Traces
-from occam_values import BOOL, BYTE, INT
+from occam.networks import Networks
+from occam.pieces import FEATURES, Proc, Variable
+from occam.writing import Writer
+from occam.traces import Traces
+from occam.values import BOOL, BYTE, INT
 
 
 @dataclass

@@ -4,7 +4,7 @@ from collections import deque
 from dataclasses import dataclass
 from inspect import isgeneratorfunction
 
-from occam_values import Halts
+from occam.values import Halts
 
 # Channels below this are those of links, and others are within the node.
 INSIDE = 8

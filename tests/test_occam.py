@@ -1,41 +1,32 @@
-#!/usr/bin/env -S python3 -B
-"""Random occam programs on the farm, beside an interpreter of this folder that shares nothing with the compiler
-(`occam_meaning.py`; `occam_programs.py` writes the programs, `occam_mistakes.py` those that must be refused). Every other program has
-processes that run at the same time; those of `occam_worked.py` have answers that were worked by hand.
-
-usage: tests/occam [--short] [--programs N] [--seed S] [--with FEATURE] [--without FEATURE] [--check-judge]
+"""Random occam programs on the farm, beside the interpreter of tests/occam, which shares nothing with the compiler (`meaning.py`;
+`programs.py` writes the programs, `mistakes.py` those that must be refused). Every other program has processes that run at the same
+time; those of `worked.py` have answers that were worked by hand.
 
 Each program is compiled by `lab occam`, and `lab assemble` must make the same code of its text. Its core, as `lab occam --core`
 prints it, is compiled again and must have the same code, and so must those of examples/occam; no warning may say that a variable is
-used before anything was put into it, since each has a value here. It is run on a node whose memory
-is new, and on one whose memory is full of what other programs left; what comes to the hosts, how the node ends, and what some
-variables are then must be as the interpreter says. The runs are by `farm`, with 1, 2 and 8 workers and quanta of 1, 256 and 4,096
-in turn, and some by `lab run`. Of the mistakes the fault's number, its line and, where it is fixed, its column must be as expected.
-Without words 2,000 programs are tried, with `--short` 64. Files of what is wrong are kept in a folder that is named. With
-`--check-judge` rules of the interpreter and code of programs are changed instead, and each change must be found. A FEATURE is
-something of the language on which a compiler may differ: see FEATURES and OPEN in `occam_pieces.py`. The status is 1 if anything
-is wrong.
-"""
-import argparse
+used before anything was put into it, since each has a value here. It is run on a node whose memory is new, and on one whose memory
+is full of what other programs left; what comes to the hosts, how the node ends, and what some variables are then must be as the
+interpreter says. The runs are by `farm`, with 1, 2 and 8 workers and quanta of 1, 256 and 4,096 in turn, and some by `lab run`. Of
+the mistakes the fault's number, its line and, where it is fixed, its column must be as expected. Files stay in the test's folder."""
+
 import glob
 import os
 import random
 import re
 import shutil
-import sys
-import tempfile
-from collections import Counter
+from collections.abc import Iterator
 from concurrent.futures import ThreadPoolExecutor
 from dataclasses import dataclass, field
 
-from occam_judging import changed_rules, spoilt_texts
-from occam_meaning import read
-from occam_mistakes import mistakes
-from occam_pieces import FEATURES, OPEN
-from occam_programs import COUNTS, Made, make
-from occam_running import Talk
-from occam_worked import WORKED, differing
-from trials import TOP, WORKERS, built, run
+import pytest
+from occam.judging import changed_rules, spoilt_texts
+from occam.meaning import read
+from occam.mistakes import mistakes
+from occam.pieces import FEATURES
+from occam.programs import COUNTS, Made, make
+from occam.running import Talk
+from occam.worked import WORKED, differing
+from support.trials import TOP, WORKERS, contents, run
 
 QUANTA = (1, 256, 4096)
 WAYS = [(workers, quantum) for workers in WORKERS for quantum in QUANTA]
@@ -51,8 +42,6 @@ ENDS = {"ended": "idle", "waits": "idle", "halted": "halted 3"}
 EACH_LAB = 10
 # The share of programs that may depend on the order in which processes take turns.
 MOST_DEPEND = 0.05
-# How many lines about what is wrong are shown.
-MOST_SHOWN = 60
 NAME = "user"
 # ldc #A5A5A5A5 / stl 1 / ldlp 1 / ldlp 2 / ldc 4000 / move / stopp: fills memory, so that nothing is 0 by chance.
 FILLING = "252a252a252a6545d111122f2a4024fa21f5"
@@ -153,21 +142,6 @@ def core_again(lab, path, wanted):
     if b"PROC " in core[1] or b" IS " in core[1] and b"VAL " not in core[1]:
         raise Unlike(f"its core has procedures or other names: {place}")
     os.remove(place)
-
-
-def wrong_cores(lab, folder):
-    """The examples whose cores have other code, and how many there are."""
-    wrong, names = [], sorted(glob.glob(f"{TOP}/examples/occam/*.occ"))
-    for name in names:
-        path = f"{folder}/{os.path.basename(name)}"
-        shutil.copy(name, path)
-        try:
-            ours, _ = loading(lab, b"", ([lab, "occam", path], ["--code"]))
-            core_again(lab, path, ours)
-            os.remove(path)
-        except Unlike as unlike:
-            wrong.append(f"{name}: {unlike}")
-    return wrong, len(names)
 
 
 # ---- runs
@@ -316,8 +290,8 @@ def batches_of(programs):
 
 
 def all_runs(farm, lab, folder, programs):
-    """What differs of all programs, and how many runs there were."""
-    wrong, runs, turn = [], 0, {True: 0, False: 0}
+    """What differs of all programs."""
+    wrong, turn = [], {True: 0, False: 0}
     large = [it for it in WAYS if it[1] > 1]
     for batch, links, is_small in batches_of(programs):
         ways = WAYS if is_small else large
@@ -327,8 +301,7 @@ def all_runs(farm, lab, folder, programs):
             wrong += by_lab(lab, folder, batch, links)
         else:
             wrong += by_farm(farm, ways[at % len(ways)], batch, links)
-        runs += 2 * len(batch)
-    return wrong, runs
+    return wrong
 
 
 # ---- mistakes
@@ -353,113 +326,84 @@ def wrong_mistake(lab, status, path, mistake):
     return f"expected {expected}: {lines[0]}"
 
 
-def all_mistakes(lab, folder, seed, count):
-    """What is wrong of so many mistakes of each kind, and how many there were."""
-    refused = run([lab, "assemble"], b"nothing\n")[0]
-    planted = [it for number in range(count) for it in mistakes(seed + number)]
-    paths = [f"{folder}/mistake{at}.occ" for at in range(len(planted))]
-    with ThreadPoolExecutor() as pool:
-        answers = list(pool.map(lambda it: wrong_mistake(lab, refused, *it), zip(paths, planted)))
-    wrong = []
-    for path, mistake, how in zip(paths, planted, answers):
-        if how:
-            wrong.append(f"{mistake.kind}, {path}: {how}")
-        else:
-            os.remove(path)
-    return wrong, len(planted)
-
-
 # ---- all together
 
 
-def worked():
-    """The programs that were worked by hand, and what the interpreter says otherwise."""
+def worked() -> list[Made]:
+    """The programs that were worked by hand."""
     programs = []
     for number, it in enumerate(WORKED, 1):
         said = {0: bytes.fromhex(it.said)} if it.said else {}
-        cost = read(it.text).run(it.coming).cost
-        programs.append(
-            Made(f"worked{number}", it.text, it.coming, Talk(said, {}, it.end, cost, [], it.is_loose), 1, {})
-        )
-    return programs, [f"the interpreter: {it.name}: {how}" for it, how in differing()]
+        talk = Talk(said, {}, it.end, read(it.text).run(it.coming).cost, [], it.is_loose)
+        programs.append(Made(f"worked{number}", it.text, it.coming, talk, 1, {}))
+    return programs
 
 
-def compile_all(lab, folder, made):
-    """The programs that are compiled, what is wrong of the others, and how many end in which way."""
-
-    def one(it):
-        try:
-            return compiled(lab, it, f"{folder}/seed{it.seed}.occ")
-        except Unlike as unlike:
-            return f"seed {it.seed}: {unlike}"
-
+def all_compiled(lab: str, folder: str, made: list[Made]) -> list[Compiled]:
+    """All these programs, each of which must be compiled."""
     with ThreadPoolExecutor() as pool:
-        done = list(pool.map(one, made))
-    right = [it for it in done if isinstance(it, Compiled)]
-    return right, [it for it in done if isinstance(it, str)], Counter(it.talk.end for it in made)
+        return list(pool.map(lambda it: compiled(lab, it, f"{folder}/seed{it.seed}.occ"), made))
 
 
-def too_many_dropped():
-    """What is wrong with programs whose answer depends on the order in which processes take turns: there are few, and they are dropped."""
-    tried, depend = COUNTS["tried"], COUNTS["depend"]
-    return [f"{depend} of {tried} programs depend on the order of processes"] if depend > MOST_DEPEND * tried else []
+def test_the_interpreter() -> None:
+    """It says of the programs that were worked by hand what they have beside them."""
+    assert [f"{it.name}: {how}" for it, how in differing()] == []
 
 
-def check_programs(seed, programs, mistaken):
-    """Tries programs and mistakes, and gives the status."""
-    lab, farm, folder = built("lab"), built("farm"), tempfile.mkdtemp(prefix="occam.")
-    by_hand, unlike = worked() if "PAR" in FEATURES else ([], [])
-    compiled_ones, wrong, ends = compile_all(
-        lab, folder, [*by_hand, *(make(it) for it in range(seed, seed + programs))]
-    )
-    wrong += unlike + too_many_dropped()
-    differing, runs = all_runs(farm, lab, folder, compiled_ones)
-    wrong += [f"seed {program.made.seed if program else '?'}: {how}" for program, how in differing]
-    cores, examples = wrong_cores(lab, folder)
-    wrong += cores
-    more, planted = all_mistakes(lab, folder, seed, mistaken)
-    wrong += more
-    print("".join(f"{it}\n" for it in wrong[:MOST_SHOWN]), end="")
-    kept = {it.made.seed for it, _ in differing if it}
-    for it in compiled_ones:
-        if it.made.seed not in kept:
-            os.remove(it.path)
-    if wrong:
-        rest = max(0, len(wrong) - MOST_SHOWN)
-        print(
-            f"{rest} more aren't shown; the files are in {folder}; tests/occam_programs.py prints the input of a seed"
-        )
-    else:
-        shutil.rmtree(folder)
-    counts = ", ".join(f"{ends[it]} {name}" for it, name in (("ended", "end"), ("halted", "halt"), ("waits", "wait")))
-    counts += f"; {COUNTS['depend']} dropped" if COUNTS["depend"] else ""
-    print(
-        f"{len(by_hand)} programs worked by hand, {programs} others ({counts}), {runs} runs, {planted} mistakes, "
-        f"{examples} cores of examples, {len(wrong)} wrong"
-    )
-    return 1 if wrong else 0
+@pytest.fixture
+def features(pytestconfig: pytest.Config) -> Iterator[set[str]]:
+    """What the programs may have of the language."""
+    kept = set(FEATURES)
+    FEATURES.update(pytestconfig.getoption("--with-feature"))
+    FEATURES.difference_update(pytestconfig.getoption("--without-feature"))
+    yield FEATURES
+    FEATURES.clear()
+    FEATURES.update(kept)
 
 
-def check_judge(seed, programs):
-    """Changes rules of the interpreter, and code of programs, and counts the changes that nothing finds."""
-    missed = changes = 0
-    for name, found in changed_rules(seed, programs):
-        print(f"{'found' if found else 'NOT FOUND'}: the interpreter, {name}" + (f", by seed {found}" if found else ""))
-        changes, missed = changes + 1, missed + (not found)
-    lab, farm = built("lab"), built("farm")
-    with tempfile.TemporaryDirectory() as folder:
-        whole, wrong, _ = compile_all(lab, folder, [make(it) for it in range(seed, seed + programs)])
-        if wrong:
-            sys.exit("\n".join(wrong))
-        for name, texts in spoilt_texts([(it, it.text.decode()) for it in whole]):
-            found = next(spoilt_runs(farm, lab, texts), None)
-            print(
-                f"{'found' if found else 'NOT FOUND'}: the code, {name}, {len(texts)} programs"
-                + (f", by {found}" if found else "")
-            )
-            changes, missed = changes + 1, missed + (not found)
-    print(f"{changes} changes, {missed} wrong")
-    return 1 if missed else 0
+@pytest.mark.parametrize("many", [64, pytest.param(2000, marks=pytest.mark.long)])
+def test_programs(
+    many: int, features: set[str], count: int | None, seed: int, lab: str, farm: str, folder: str
+) -> None:
+    by_hand = worked() if "PAR" in features else []
+    made = [make(it) for it in range(seed, seed + (count or many))]
+    # their answers would depend on the order in which processes take turns, so they are dropped
+    assert COUNTS["depend"] <= MOST_DEPEND * COUNTS["tried"]
+    wrong = all_runs(farm, lab, folder, all_compiled(lab, folder, [*by_hand, *made]))
+    assert [f"seed {program.made.seed if program else '?'}: {how}" for program, how in wrong] == []
+
+
+@pytest.mark.parametrize("path", sorted(glob.glob(f"{TOP}/examples/occam/*.occ")), ids=os.path.basename)
+def test_cores_of_examples(path: str, lab: str, folder: str) -> None:
+    place = shutil.copy(path, folder)
+    ours, _ = loading(lab, b"", ([lab, "occam", place], ["--code"]))
+    core_again(lab, place, ours)
+
+
+@pytest.mark.parametrize("many", [1, pytest.param(8, marks=pytest.mark.long)])
+def test_mistakes(many: int, features: set[str], seed: int, lab: str, folder: str) -> None:
+    """So many mistakes of each kind are planted, and each is told."""
+    refused = run([lab, "assemble"], b"nothing\n").status
+    planted = [it for number in range(many) for it in mistakes(seed + number)]
+    paths = [f"{folder}/mistake{at}.occ" for at in range(len(planted))]
+    with ThreadPoolExecutor() as pool:
+        answers = list(pool.map(lambda it: wrong_mistake(lab, refused, *it), zip(paths, planted)))
+    assert planted
+    assert [f"{mistake.kind}, {path}: {how}" for path, mistake, how in zip(paths, planted, answers) if how] == []
+
+
+@pytest.mark.long
+def test_changed_rules_are_found(count: int | None, seed: int) -> None:
+    """Rules of the interpreter are changed, and each change is found by a program."""
+    assert [name for name, found in changed_rules(seed, count or 2000) if not found] == []
+
+
+@pytest.mark.long
+def test_changed_code_is_found(count: int | None, seed: int, lab: str, farm: str, folder: str) -> None:
+    """The code of programs is changed, and each change is found by the interpreter."""
+    whole = all_compiled(lab, folder, [make(it) for it in range(seed, seed + (count or 2000))])
+    for name, texts in spoilt_texts([(it, it.text.decode()) for it in whole]):
+        assert next(spoilt_runs(farm, lab, texts), None), name
 
 
 def spoilt_runs(farm, lab, texts):
@@ -474,27 +418,12 @@ def spoilt_runs(farm, lab, texts):
             spoilt.append(Compiled(program.made, program.path, text.encode(), load))
         for batch, links, _ in batches_of(spoilt):
             for program, how in by_farm(farm, (2, 256), batch, links):
-                if program is None:
-                    sys.exit(how)
+                assert program is not None, how
                 yield f"seed {program.made.seed}: {how[:120]}"
 
 
-def main():
-    parser = argparse.ArgumentParser(usage=__doc__.split("usage: ")[1].split("\n")[0], add_help=False)
-    parser.add_argument("--short", action="store_true")
-    parser.add_argument("--programs", type=int)
-    parser.add_argument("--seed", type=int, default=1)
-    parser.add_argument("--with", action="append", default=[], choices=sorted(OPEN), dest="more")
-    parser.add_argument("--without", action="append", default=[], choices=sorted(FEATURES))
-    parser.add_argument("--check-judge", action="store_true")
-    words = parser.parse_args()
-    FEATURES.update(words.more)
-    FEATURES.difference_update(words.without)
-    programs = words.programs or (64 if words.short else 2000)
-    if words.check_judge:
-        return check_judge(words.seed, programs)
-    return check_programs(words.seed, programs, 1 if words.short else 8)
-
-
-if __name__ == "__main__":
-    sys.exit(main())
+def test_rows(lab: str) -> None:
+    """The rows of occam, with the code of each construct worked by hand, are all right."""
+    folder = f"{TOP}/tests/occam_rows"
+    got = run([lab, "rows", "programs.occam", "parallel.occam"], folder=folder, seconds=600)
+    assert got == (0, contents(f"{folder}/stdout"), b"")

@@ -1,13 +1,13 @@
 """What an occam program means: a reader and an interpreter that share nothing with the compiler. Arithmetic has 32 bits.
 
-usage: python3 -B tests/occam_meaning.py FILE [LINK=HEX ..]
+usage, in tests/: python3 -B -m occam.meaning FILE [LINK=HEX ..]
 
 Runs the program of a file. What comes at link N is given as N=HEX. Prints what is sent at each link, how it ends, and how many
 bytes of input are taken. Scripts use `read`, which gives a program from its text, and `run`.
 """
 import sys
 
-from occam_expressions import (
+from occam.expressions import (
     Expressions,
     Kind,
     LINKS,
@@ -19,10 +19,10 @@ from occam_expressions import (
     Wrong,
     statements_of,
 )
-from occam_processes import Processes
-from occam_running import INSIDE, Program, Talk, after, halt, sequence, skip, talks
-from occam_uses import Uses
-from occam_values import BOOL, BYTE, Halts, INT, Rules, wrapped
+from occam.processes import Processes
+from occam.running import INSIDE, Program, Talk, after, halt, sequence, skip, talks
+from occam.uses import Uses
+from occam.values import BOOL, BYTE, Halts, INT, Rules, wrapped
 
 
 class Reader(Expressions, Processes, Uses):

@@ -1,9 +1,9 @@
 """How random occam programs have networks that people write: pipelines, rings, trees, farms, and components that share an array."""
 from dataclasses import dataclass
 
-from occam_choices import Choices
-from occam_pieces import FEATURES
-from occam_values import BOOL, BYTE, INT
+from occam.choices import Choices
+from occam.pieces import FEATURES
+from occam.values import BOOL, BYTE, INT
 
 
 @dataclass

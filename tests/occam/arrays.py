@@ -1,6 +1,6 @@
 """How random occam programs fill, read, change, copy and send arrays, and abbreviate values, variables, elements and arrays."""
-from occam_pieces import FEATURES, Part, Variable, WHOLE
-from occam_values import BOOL, BYTE, INT, MOST_POSITIVE
+from occam.pieces import FEATURES, Part, Variable, WHOLE
+from occam.values import BOOL, BYTE, INT, MOST_POSITIVE
 
 
 class Arrays:

@@ -1,24 +1,14 @@
-#!/usr/bin/env -S python3 -B
-"""Gives the lab units of occam that no front end should write: each is refused with fault 45 and the place of what is wrong, and a
-right one beside it is compiled. What is expected is worked by hand from docs/OCCAM.md, "The unit".
-
-usage: tests/units
-
-If LAB holds the path of the program `lab`, that is tried. The status is 1 if anything is wrong.
-"""
-from __future__ import annotations
+"""Units of occam that no front end should write: the lab refuses each with fault 45 and the place of what is wrong, and a right one
+beside it is compiled. What is expected is worked by hand from docs/OCCAM.md, "The unit"."""
 
 import json
 import os
-import subprocess
-import sys
-import tempfile
 import threading
 from typing import Any
 
-from trials import built_program
+import pytest
+from support.trials import Ran, program, put, run
 
-SECONDS = 60
 WRONG_TEXT = 4
 HEAD = "line 1: fault 45: the compiler made a mistake, and its front end gave no program: "
 # x := 3 + 4, twice, at lines 2 and 3 of a text, and x sent by the output of link 0.
@@ -42,8 +32,8 @@ RIGHT: dict[str, Any] = {
     ],
 }
 DEEP = 5_000
-# ajw 3, sethalterr, ldc 7, stl 1, then ldlp 1, ldl 1 and out of a word by the output of link 0, which is at 80000000; stopp.
-CODE = "b325f847d17180"
+# ajw 3, sethalterr, ldc 7, stl 1, then mint, as the output of link 0 is at 80000000, ldl 1 and outword; stopp.
+CODE = "b3" "25f8" "47d1" "24f2" "71ff" "21f5"
 
 
 def changed(**members: Any) -> str:
@@ -126,60 +116,41 @@ UNREADABLE: list[str] = [
 ]
 
 
-def answered(program: str, unit: str) -> tuple[int, str, str]:
-    """What the lab makes of a unit: its status, its output and what it says."""
-    with tempfile.TemporaryDirectory() as folder:
-        os.mkfifo(f"{folder}/asked")
-        os.mkfifo(f"{folder}/answered")
-        text = f"{folder}/x.occ"
-        with open(text, "w", encoding="ascii") as file:
-            file.write("SKIP\n")
+def answered(folder: str, unit: str) -> Ran:
+    """What the lab makes of a unit."""
+    os.mkfifo(f"{folder}/asked")
+    os.mkfifo(f"{folder}/answered")
+    text = put(f"{folder}/x.occ", "SKIP\n")
 
-        def answer() -> None:
-            with open(f"{folder}/asked", "rb") as asked:
-                asked.read()
-            with open(f"{folder}/answered", "w", encoding="utf-8") as file:
-                file.write(unit)
+    def answer() -> None:
+        with open(f"{folder}/asked", "rb") as asked:
+            asked.read()
+        with open(f"{folder}/answered", "w", encoding="utf-8") as file:
+            file.write(unit)
 
-        threading.Thread(target=answer, daemon=True).start()
-        done = subprocess.run(
-            [program, "occam", text, "--code"],
-            stdin=subprocess.DEVNULL,
-            capture_output=True,
-            encoding="utf-8",
-            env={**os.environ, "NADZSUMEK_OCCAM": folder},
-            timeout=SECONDS,
-            check=False,
-        )
-        return done.returncode, done.stdout, done.stderr
+    threading.Thread(target=answer, daemon=True).start()
+    return run([program("lab"), "occam", text, "--code"], more={"NADZSUMEK_OCCAM": folder})
 
 
-def wrong_units(program: str) -> list[str]:
-    """What is wrong, a line each."""
-    found = []
-    for unit, said in WRONG:
-        if (got := answered(program, unit)) != (WRONG_TEXT, "", f"{HEAD}{said}\n"):
-            found.append(f"{unit[:200]}\n  gives {str(got)[:400]}, not {said!r}")
-    for unit in UNREADABLE:
-        status, out, said = answered(program, unit)
-        if (status, out) != (WRONG_TEXT, "") or not said.startswith(HEAD) or " line 1 column " not in said:
-            found.append(f"{unit[:200]}\n  gives {str((status, out, said))[:400]}, and no place")
-    status, out, said = answered(program, changed())
-    if (status, said) != (0, ""):
-        found.append(f"the right unit gives {str((status, out, said))[:400]}")
-    status, out, said = answered(program, changed(mistakes=["line 1, column 1: fault 1: x", "More is wrong"]))
-    if (status, out, said) != (WRONG_TEXT, "", "line 1, column 1: fault 1: x\nMore is wrong\n"):
-        found.append(f"mistakes give {str((status, out, said))[:400]}")
-    return found
+@pytest.mark.parametrize(("unit", "said"), WRONG, ids=[said for _, said in WRONG])
+def test_wrong_units(unit: str, said: str, folder: str) -> None:
+    assert answered(folder, unit) == (WRONG_TEXT, b"", f"{HEAD}{said}\n".encode())
 
 
-def main() -> int:
-    found = wrong_units(built_program("lab"))
-    for line in found:
-        print(line)
-    print(f"{len(WRONG) + len(UNREADABLE) + 2} units, {len(found)} wrong")
-    return 1 if found else 0
+@pytest.mark.parametrize("unit", UNREADABLE, ids=range(len(UNREADABLE)))
+def test_units_that_are_not_read(unit: str, folder: str) -> None:
+    status, output, errors = answered(folder, unit)
+    assert (status, output) == (WRONG_TEXT, b"")
+    assert errors.decode().startswith(HEAD)
+    assert b" line 1 column " in errors
 
 
-if __name__ == "__main__":
-    sys.exit(main())
+def test_the_right_unit(folder: str) -> None:
+    status, output, errors = answered(folder, changed())
+    assert (status, output.decode(), errors) == (0, f"{CODE}\n", b"")
+
+
+def test_mistakes(folder: str) -> None:
+    said = ["line 1, column 1: fault 1: x", "More is wrong"]
+    got = answered(folder, changed(mistakes=said))
+    assert got == (WRONG_TEXT, b"", "".join(f"{it}\n" for it in said).encode())

@@ -1,6 +1,6 @@
 """How random occam programs choose by ALT so that their answer is one: results are added up, a server answers each client, or one guard
 alone can be ready."""
-from occam_values import INT
+from occam.values import INT
 
 
 class Choices:

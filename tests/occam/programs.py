@@ -1,6 +1,6 @@
 """Random occam programs, with what comes at their links and what they mean: of one process, or of several.
 
-usage: python3 -B tests/occam_programs.py SEED [COUNT]
+usage, in tests/: python3 -B -m occam.programs SEED [COUNT]
 
 Prints the program of a seed with its input and what it means, or, with COUNT, how many of the seeds from SEED on end in which way.
 """
@@ -9,12 +9,12 @@ import time
 from collections import Counter
 from dataclasses import dataclass
 
-from occam_expressions import Wrong
-from occam_meaning import Talk, read
-from occam_parallel import ParallelWriter
-from occam_pieces import FEATURES, MOST_COST, MOST_SAID
-from occam_printing import Printer
-from occam_writing import Writer
+from occam.expressions import Wrong
+from occam.meaning import Talk, read
+from occam.parallel import ParallelWriter
+from occam.pieces import FEATURES, MOST_COST, MOST_SAID
+from occam.printing import Printer
+from occam.writing import Writer
 
 # How many programs of several processes were tried, and how many of them depend on the order in which processes take turns.
 COUNTS = Counter()

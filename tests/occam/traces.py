@@ -2,8 +2,8 @@
 in which it has a part, in their order. So each has its partner in the end, and what comes is the same however they take turns."""
 from dataclasses import dataclass
 
-from occam_pieces import FEATURES, Variable, WHOLE
-from occam_values import BYTE, INT
+from occam.pieces import FEATURES, Variable, WHOLE
+from occam.values import BYTE, INT
 
 
 @dataclass(eq=False)

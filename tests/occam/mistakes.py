@@ -4,13 +4,13 @@ import random
 import re
 from dataclasses import dataclass
 
-from occam_clashes import CLASHES, OFTEN
-from occam_expressions import Wrong, tokens_of
-from occam_meaning import read
-from occam_parallel import ParallelWriter
-from occam_pieces import FEATURES
-from occam_printing import Printer
-from occam_writing import Writer
+from occam.clashes import CLASHES, OFTEN
+from occam.expressions import Wrong, tokens_of
+from occam.meaning import read
+from occam.parallel import ParallelWriter
+from occam.pieces import FEATURES
+from occam.printing import Printer
+from occam.writing import Writer
 
 
 @dataclass

@@ -1,7 +1,7 @@
 """What random occam programs are made of: sizes, names and signs, and parts of programs with what is known of them."""
 from dataclasses import dataclass
 
-from occam_values import BYTE, INT, MOST_NEGATIVE, MOST_POSITIVE
+from occam.values import BYTE, INT, MOST_NEGATIVE, MOST_POSITIVE
 
 WHOLE, SMALL = (MOST_NEGATIVE, MOST_POSITIVE), (-10_000, 10_000)
 # What each program sends last at its first output, as BYTE and as INT.

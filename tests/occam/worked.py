@@ -1,13 +1,7 @@
-"""Occam programs of several processes whose answers were worked by hand, for the interpreter of this folder and for the farm.
-
-usage: python3 -B tests/occam_worked.py
-
-Runs each by the interpreter, and prints those whose answer is another one; the status is 1 then. Scripts use `WORKED`.
-"""
-import sys
+"""Occam programs of several processes whose answers were worked by hand, for the interpreter of this folder and for the farm."""
 from dataclasses import dataclass
 
-from occam_meaning import read
+from occam.meaning import read
 
 
 @dataclass
@@ -512,14 +506,3 @@ def differing():
             said = talk.said.get(0, b"").hex()
             if (said, talk.end, talk.is_loose) != (it.said, it.end, it.is_loose) or set(talk.said) - {0}:
                 yield it, f"{talk.end}, {said or '-'}, expected {it.end}, {it.said}"
-
-
-def main():
-    wrong = list(differing())
-    print("".join(f"{it.name}: {how}\n" for it, how in wrong), end="")
-    print(f"{len(WORKED)} programs, {len(wrong)} wrong")
-    return 1 if wrong else 0
-
-
-if __name__ == "__main__":
-    sys.exit(main())

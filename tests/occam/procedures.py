@@ -1,6 +1,6 @@
 """How random occam programs declare PROCs, of their own and some that people write, and use them."""
-from occam_pieces import FEATURES, Proc, Variable, WHOLE
-from occam_values import BOOL, BYTE, INT
+from occam.pieces import FEATURES, Proc, Variable, WHOLE
+from occam.values import BOOL, BYTE, INT
 
 
 class Procedures:

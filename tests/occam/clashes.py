@@ -1,4 +1,4 @@
-"""Mistakes of processes that run at the same time, in the form of those of `occam_mistakes.py`, which plants them."""
+"""Mistakes of processes that run at the same time, in the form of those of `mistakes.py`, which plants them."""
 
 LINK_IN, LINK_OUT = "CHAN OF INT q.9:|PLACE q.9 AT {in}:", "CHAN OF INT q.9:|PLACE q.9 AT {out}:"
 TWO = "CHAN OF INT q.3, q.4:|INT q.1, q.2:|"

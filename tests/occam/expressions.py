@@ -3,8 +3,8 @@ and changed is looked at here, too."""
 import re
 from dataclasses import dataclass
 
-from occam_uses import interval
-from occam_values import BOOL, BYTE, DYADIC, Halts, INT, MONADIC, MOST_NEGATIVE, MOST_POSITIVE, wrapped
+from occam.uses import interval
+from occam.values import BOOL, BYTE, DYADIC, Halts, INT, MONADIC, MOST_NEGATIVE, MOST_POSITIVE, wrapped
 
 SIZES = {INT: 4, BYTE: 1}
 ESCAPES = {"n": 10, "c": 13, "t": 9, "s": 32, "'": 39, '"': 34, "*": 42}

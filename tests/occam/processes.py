@@ -1,10 +1,10 @@
 """How what runs at the same time is read: PAR and ALT, their replicators, and channels with their arrays and messages."""
 from dataclasses import dataclass
 
-from occam_expressions import Kind, MOST_ELEMENTS, Name, SIZES, UNKNOWN, Wrong
-from occam_running import INSIDE, parallel, sequence, skip, talks
-from occam_uses import interval
-from occam_values import BOOL, Halts, INT, wrapped
+from occam.expressions import Kind, MOST_ELEMENTS, Name, SIZES, UNKNOWN, Wrong
+from occam.running import INSIDE, parallel, sequence, skip, talks
+from occam.uses import interval
+from occam.values import BOOL, Halts, INT, wrapped
 
 # How many components a PAR has at most, how many alternatives an ALT, and how many channels an array.
 MOST_PARTS = 256

@@ -3,10 +3,10 @@ use `changed_rules` and `spoilt_texts`."""
 import re
 from dataclasses import replace
 
-from occam_meaning import read
-from occam_pieces import MOST_COST
-from occam_programs import make
-from occam_values import MOST_NEGATIVE, Rules, checked, wrapped
+from occam.meaning import read
+from occam.pieces import MOST_COST
+from occam.programs import make
+from occam.values import MOST_NEGATIVE, Rules, checked, wrapped
 
 
 def dyadic(**changes):

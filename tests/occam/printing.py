@@ -1,9 +1,9 @@
 """How occam programs are printed, in styles of their own: blanks, lines that go on, remarks."""
 import random
 
-from occam_expressions import KEYWORDS
-from occam_pieces import FEATURES, REMARKS, SIGNS, UNARY
-from occam_values import BOOL, BYTE, INT
+from occam.expressions import KEYWORDS
+from occam.pieces import FEATURES, REMARKS, SIGNS, UNARY
+from occam.values import BOOL, BYTE, INT
 
 
 class Printer:
