@@ -1,6 +1,8 @@
 """What all tests get: the built programs, a folder, and the words with which ./test changes how much is tried."""
 
 import os
+import tempfile
+from collections.abc import Iterator
 
 import pytest
 from _pytest.terminal import TerminalReporter
@@ -53,9 +55,10 @@ def live() -> str:
 
 
 @pytest.fixture
-def folder(tmp_path: object) -> str:
-    """A folder of the test's own."""
-    return str(tmp_path)
+def folder() -> Iterator[str]:
+    """A folder of the test's own, whose path is so short that sockets may be below it."""
+    with tempfile.TemporaryDirectory() as it:
+        yield it
 
 
 @pytest.fixture

@@ -623,7 +623,8 @@ def test_class_says_what_is_wrong(folder: str) -> None:
         for at, row in enumerate(SPELLED, 1)
         if row[2:]
     )
-    assert call("--students spelled.txt --nodes 1 spelled").stdout.partition(f"{len(SPELLED)} students")[0] == notes
+    done = call("--students spelled.txt --nodes 1 spelled")
+    assert (done.stderr, done.stdout.partition(f"{len(SPELLED)} students")[0]) == ("", notes)
     assert sorted(os.listdir(f"{folder}/spelled/sheets")) == sorted(f"{name}.txt" for _, name, *_ in SPELLED)
     done = call("--students spelled.txt --nodes 1 narrow", PYTHONIOENCODING="ascii")
     assert (done.returncode, "lin-zoe, without \\u5468\n" in done.stdout) == (0, True)

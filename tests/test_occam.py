@@ -17,6 +17,7 @@ import shutil
 from collections.abc import Iterator
 from concurrent.futures import ThreadPoolExecutor
 from dataclasses import dataclass, field
+from pathlib import Path
 
 import pytest
 from occam.judging import changed_rules, spoilt_texts
@@ -348,6 +349,12 @@ def all_compiled(lab: str, folder: str, made: list[Made]) -> list[Compiled]:
 def test_the_interpreter() -> None:
     """It says of the programs that were worked by hand what they have beside them."""
     assert [f"{it.name}: {how}" for it, how in differing()] == []
+
+
+@pytest.fixture
+def folder(tmp_path: Path) -> str:
+    """A folder that stays, so that a program can be looked at for which a test failed."""
+    return str(tmp_path)
 
 
 @pytest.fixture

@@ -1,4 +1,5 @@
 """A machine of its own that systemd boots: a container above this system's files, which stay as they are."""
+
 import contextlib
 import os
 import subprocess
@@ -15,11 +16,13 @@ class NotBooted(Exception):
 class Booted:
     """A booted machine, in which some folders of this one are at other paths too. What is written there is gone at the end."""
 
-    def __init__(self, room, folders):
+    def __init__(self, room: str, folders: dict[str, str]) -> None:
         self.room, self.folders, self.root = room, folders, f"{room}/over/root"
-        self.process, self.number, self.undone = None, None, None
+        self.process: subprocess.Popen[bytes] | None = None
+        self.number = ""
+        self.undone = contextlib.ExitStack()
 
-    def __enter__(self):
+    def __enter__(self) -> "Booted":
         over = f"{self.room}/over"
         os.mkdir(over)
         with contextlib.ExitStack() as self.undone:
@@ -37,17 +40,17 @@ class Booted:
             self.undone = self.undone.pop_all()
         return self
 
-    def __exit__(self, *_):
+    def __exit__(self, *_: object) -> None:
         self.undone.close()
 
-    def mount(self, *words):
+    def mount(self, *words: str) -> None:
         """Mounts something until the end."""
         done = subprocess.run(["mount", *words], check=False, capture_output=True, encoding="utf-8")
         if done.returncode != 0:
             raise NotBooted(done.stderr.strip())
-        self.undone.callback(subprocess.run, ["umount", "--lazy", words[-1]], check=False, capture_output=True)
+        self.undone.callback(lambda: subprocess.run(["umount", "--lazy", words[-1]], check=False, capture_output=True))
 
-    def boot(self):
+    def boot(self) -> None:
         """Boots it, and waits until its units are started."""
         call = [
             "systemd-nspawn",
@@ -73,16 +76,17 @@ class Booted:
                     raise NotBooted(f"no machine could be booted: {log.read()}")
             time.sleep(0.1)
 
-    def is_running(self):
+    def is_running(self) -> bool:
         """Whether it has started all that it should."""
+        assert self.process
         with open(f"/proc/{self.process.pid}/task/{self.process.pid}/children", encoding="ascii") as it:
-            self.number = next(iter(it.read().split()), None)
-        return self.number is not None and self.call("systemctl", "is-system-running")[1].strip() in (
+            self.number = next(iter(it.read().split()), "")
+        return self.number != "" and self.call("systemctl", "is-system-running")[1].strip() in (
             "running",
             "degraded",
         )
 
-    def call(self, *words, text=""):
+    def call(self, *words: str, text: str = "") -> tuple[int, str]:
         """The status of a call there, and what it says."""
         done = subprocess.run(
             [
@@ -113,14 +117,13 @@ class Booted:
         )
         return done.returncode, done.stdout
 
-    def must(self, *words, text=""):
+    def must(self, *words: str, text: str = "") -> str:
         """What a call there says that must go well."""
         status, told = self.call(*words, text=text)
-        if status != 0:
-            raise AssertionError(f"{words}: status {status}: {told}")
+        assert status == 0, f"{words}: status {status}: {told}"
         return told
 
-    def until(self, *words, text="", starts=""):
+    def until(self, *words: str, text: str = "", starts: str = "") -> str:
         """What a call there says as soon as it goes well, and that begins so."""
         end = time.monotonic() + SECONDS
         while True:
@@ -131,7 +134,7 @@ class Booted:
                 raise AssertionError(f"{words}: status {status}: {told}")
             time.sleep(0.2)
 
-    def halt(self):
+    def halt(self) -> None:
         """Ends it as a machine that is switched off by its button."""
         if self.process is None:
             return

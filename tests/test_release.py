@@ -1,15 +1,14 @@
-#!/usr/bin/env -S python3 -B
-"""Tries the packages that tools/release makes: that they are the same byte for byte wherever and whenever they are made, that Debian's
-package is installed into a machine's root in which there is no toolchain, that an account without rights runs a script there, has a class
-with two terminals, asks why a node waits and makes a film, that the archive does it where it is unpacked, and that nothing is left when
-the package is removed but what that account has made.
+"""The packages that tools/release makes: that they are the same byte for byte wherever and whenever they are made, that Debian's
+package is installed into a machine's root in which there is no toolchain, that an account without rights runs a script there, has a
+class with two terminals, asks why a node waits and makes a film, that the archive does it where it is unpacked, and that nothing is
+left when the package is removed but what that account has made.
 
-usage: tests/release
+The root is this machine's own below a layer (overlayfs) at /mnt, in a mount namespace of a child of this process: no other process
+sees it, what is written there goes to memory, and all is gone when the child ends. Nothing of the machine but its files is in it, and
+none of its devices but those that programs always have. That needs root, the right to mount, and dpkg; where one isn't there, the
+tests in it are left out."""
 
-The root is this machine's own below a layer (overlayfs) at /mnt, in a mount namespace of this process: no other process sees it, what is
-written there goes to memory, and all is gone when the process ends. Nothing of the machine but its files is in it, and none of its devices
-but those that programs always have. That needs root, the right to mount, and dpkg; where one isn't there, a line says that the trials in it are left out.
-"""
+import ctypes
 import glob
 import os
 import re
@@ -17,10 +16,12 @@ import shutil
 import stat
 import subprocess
 import sys
-import tempfile
+import traceback
+from collections.abc import Callable
 
-from screens import CONTROL_D, Screen
-from trials import TOP, built_program, contents
+import pytest
+from support.screens import CONTROL_D, Screen
+from support.trials import TOP, contents, program, text_of
 
 PROGRAMS = ("farm", "farm_explain", "live", "lab")
 ACCOUNT = "nadz-release"
@@ -32,12 +33,7 @@ MOST_SECONDS = 600
 # Where the layer is, for this process alone, and the devices that are in it.
 LAYER = "/mnt"
 DEVICES = {"null": (1, 3), "zero": (1, 5), "random": (1, 8), "urandom": (1, 9), "tty": (5, 0)}
-INSIDE = "--inside"
-
-
-def wanted(seen, expected):
-    if seen != expected:
-        raise AssertionError(f"{seen!r} in place of {expected!r}")
+CLONE_NEWNS = 0x20000
 
 
 def done(call, text="", **more):
@@ -53,36 +49,39 @@ def done(call, text="", **more):
         check=False,
         **more,
     )
-    if it.returncode != 0:
-        raise AssertionError(f"{' '.join(call)}: status {it.returncode}, {it.stdout}")
+    assert it.returncode == 0, f"{' '.join(call)}: status {it.returncode}, {it.stdout}"
     return it.stdout
 
 
 def make(out, **env):
     """Makes the packages: a release if this may be one, else a draft. What is shown of them, without their paths."""
     call = [f"{TOP}/tools/release", out]
-    given = {**os.environ, **{name.upper(): built_program(name) for name in PROGRAMS}, **env}
+    given = {**os.environ, **env}
     it = subprocess.run(call, env=given, capture_output=True, encoding="utf-8", timeout=MOST_SECONDS, check=False)
     told = it.stdout if it.returncode == 0 else done([*call[:1], "--draft", out], env=given)
     return told.replace(f"{out}/", "")
 
 
-def packages_are_reproducible(room):
+@pytest.fixture(scope="module")
+def packages(tmp_path_factory: pytest.TempPathFactory) -> tuple[str, str]:
+    """A folder with both packages, and what was said of them."""
+    folder = str(tmp_path_factory.mktemp("packages"))
+    return folder, make(folder)
+
+
+def test_packages_are_reproducible(packages: tuple[str, str], folder: str) -> None:
     """Two makings, with other times, masks, languages and folders, are the same."""
-    first = make(f"{room}/first")
+    first, told = packages
     before = os.umask(0o077)
     try:
-        os.mkdir(f"{room}/elsewhere")
-        second = make(f"{room}/second", TZ="Asia/Tokyo", LC_ALL="C", TMPDIR=f"{room}/elsewhere")
+        os.mkdir(f"{folder}/elsewhere")
+        assert make(f"{folder}/second", TZ="Asia/Tokyo", LC_ALL="C", TMPDIR=f"{folder}/elsewhere") == told
     finally:
         os.umask(before)
-    wanted(second, first)
-    names = sorted(os.listdir(f"{room}/first"))
-    wanted(len(names), 2)
+    names = sorted(os.listdir(first))
+    assert len(names) == 2
     for name in names:
-        wanted(contents(f"{room}/second/{name}") == contents(f"{room}/first/{name}"), True)
-    doubts = [it for it in first.splitlines() if it.startswith("draft: ")]
-    return f"{' and '.join(names)}" + "".join(f"; {it}" for it in doubts)
+        assert contents(f"{folder}/second/{name}") == contents(f"{first}/{name}"), name
 
 
 def why_no_root():
@@ -209,10 +208,10 @@ def hello_at_a_terminal(root):
         bob.line("peek 0 80000048", ["peek 0 00000000"])
         # USER.md: a node whose program has come to its end
         ada.press("why\r")
-        wanted("node 0 has ended: no process is left." in ada.until("> "), True)
+        assert "node 0 has ended: no process is left." in ada.until("> ")
         for it in (ada, bob):
             it.press(CONTROL_D)
-            wanted(it.end()[1], 0)
+            assert it.end()[1] == 0
 
 
 def class_of_two(root):
@@ -222,64 +221,65 @@ def class_of_two(root):
         hello_at_a_terminal(root)
     finally:
         root.by("class", "stop", "one")
-    wanted(
-        root.by("lab", "why", "one/farm-1/records/ada.replay").splitlines()[-1], "node 0 has ended: no process is left."
+    assert (
+        root.by("lab", "why", "one/farm-1/records/ada.replay").splitlines()[-1]
+        == "node 0 has ended: no process is left."
     )
     film = root.by("lab", "film", "one/farm-1/records/ada.replay")
-    wanted(
-        (film.lower().startswith("<!doctype html"), film.rstrip().endswith("</html>"), "ada" in film),
-        (True, True, True),
+    assert (film.lower().startswith("<!doctype html"), film.rstrip().endswith("</html>"), "ada" in film) == (
+        True,
+        True,
+        True,
     )
-    wanted(
-        root.shell("grep -c '^The user.s guide: /usr/share/doc/nadzsumek/guides/USER.md$' one/sheets/ada.txt"), "1\n"
+    assert (
+        root.shell("grep -c '^The user.s guide: /usr/share/doc/nadzsumek/guides/USER.md$' one/sheets/ada.txt") == "1\n"
     )
 
 
 def script_is_answered(root, farm, folder):
     """The stored example, by this command, with no toolchain anywhere."""
-    wanted(root.shell("! command -v rt; ! command -v rattle"), "")
+    assert root.shell("! command -v rt; ! command -v rattle") == ""
     for name in ("two-users", "word-plus-one"):
-        wanted(root.shell(f"{farm} < {folder}/examples/{name}.farm"), contents(f"{TOP}/examples/{name}.out").decode())
+        assert root.shell(f"{farm} < {folder}/examples/{name}.farm") == contents(f"{TOP}/examples/{name}.out").decode()
     told = root.shell(f"{farm} --explain 2>&1 < /dev/null || echo $?").splitlines()
-    wanted((told[0], told[-1]), ("plan: 2", "3"))
-    with open(f"{TOP}/VERSION", encoding="ascii") as it:
-        version = it.read().strip()
+    assert (told[0], told[-1]) == ("plan: 2", "3")
+    version = text_of(f"{TOP}/VERSION").strip()
     told = root.shell(f"{farm} --version").splitlines()
-    wanted(told[0].startswith(f"farm of Nadzsumek {version}, commit "), True)
-    wanted((len(told), [it for it in told if "NOT the program" in it or "not built" in it]), (3, []))
+    assert told[0].startswith(f"farm of Nadzsumek {version}, commit ")
+    assert (len(told), [it for it in told if "NOT the program" in it or "not built" in it]) == (3, [])
 
 
 def pages_are_there(root):
     """Man pages, what bash completes, the units and the package for Python."""
     for name in ("farm", "live", "lab", "serve", "connect", "class"):
-        wanted(os.path.exists(f"{root.path}/usr/share/man/man1/{name}.1.gz"), True)
-        wanted(
-            root.shell(f". /usr/share/bash-completion/completions/{name}; complete -p {name}"),
-            f"complete -o filenames -F _nadzsumek {name}\n",
+        assert os.path.exists(f"{root.path}/usr/share/man/man1/{name}.1.gz")
+        assert (
+            root.shell(f". /usr/share/bash-completion/completions/{name}; complete -p {name}")
+            == f"complete -o filenames -F _nadzsumek {name}\n"
         )
     units = f"{root.path}/usr/lib/systemd/system"
     for name, call in (("farm@", "/usr/bin/serve --sync"), ("class@", "/usr/bin/class serve")):
         text = contents(f"{units}/{name}.service").decode()
-        wanted((f"ExecStart={call}" in text, "@PREFIX@" in text), (True, False))
+        assert (f"ExecStart={call}" in text, "@PREFIX@" in text) == (True, False)
     # by root, whose Python puts folders of its own beside the package
-    wanted(
+    assert (
         root.by_root(
             "env", "PYTHONPATH=/usr/lib/nadzsumek", "python3", "-c", "import nadzsumek; print(nadzsumek.Farm.__name__)"
-        ),
-        "Farm\n",
+        )
+        == "Farm\n"
     )
-    wanted(os.path.isdir(f"{root.path}/usr/lib/nadzsumek/nadzsumek/__pycache__"), True)
+    assert os.path.isdir(f"{root.path}/usr/lib/nadzsumek/nadzsumek/__pycache__")
 
 
 def hashes_are_those_of(root, place):
     """The text by which somebody checks the programs is right, and sees a byte that is changed."""
     check = "sha256sum --check ../../../share/doc/nadzsumek/SHA256SUMS"
     told = root.shell(f"cd {place}/lib/nadzsumek/programs; {check}")
-    wanted(told, "".join(f"{name}: OK\n" for name in sorted(PROGRAMS)))
+    assert told == "".join(f"{name}: OK\n" for name in sorted(PROGRAMS))
     about = root.shell(f"cat {place}/share/doc/nadzsumek/RELEASE.txt")
     for name in PROGRAMS:
-        digest = done(["sha256sum", built_program(name)]).split()[0]
-        wanted(re.search(rf"^{digest}  {name}$", about, re.M) is not None, True)
+        digest = done(["sha256sum", program(name)]).split()[0]
+        assert re.search(rf"^{digest}  {name}$", about, re.M) is not None
 
 
 def package_is_installed_and_removed(root, package):
@@ -291,17 +291,16 @@ def package_is_installed_and_removed(root, package):
     class_of_two(root)
     pages_are_there(root)
     hashes_are_those_of(root, "/usr")
-    wanted(root.by_root("dpkg", "--verify", "nadzsumek"), "")
+    assert root.by_root("dpkg", "--verify", "nadzsumek") == ""
     with open(f"{root.path}/usr/lib/nadzsumek/programs/farm", "ab") as it:
         it.write(b"\0")
-    wanted("NOT the program that was installed" in root.by("farm", "--version"), True)
+    assert "NOT the program that was installed" in root.by("farm", "--version")
     root.by_root("dpkg", "--purge", "nadzsumek")
-    wanted(sorted(root.written() - before), [])
-    wanted(
-        root.shell("ls names one/farm-1/records; ! command -v farm"),
-        "names\n\none/farm-1/records:\nada.replay\nbob.replay\nlock\n",
+    assert sorted(root.written() - before) == []
+    assert (
+        root.shell("ls names one/farm-1/records; ! command -v farm")
+        == "names\n\none/farm-1/records:\nada.replay\nbob.replay\nlock\n"
     )
-    return "installed, used by an account without rights and without a toolchain, and removed"
 
 
 def archive_runs_where_it_is(root, archive):
@@ -311,53 +310,30 @@ def archive_runs_where_it_is(root, archive):
     home = f"/home/{ACCOUNT}/own"
     script_is_answered(root, f"{home}/bin/farm", f"{home}/lib/nadzsumek")
     hashes_are_those_of(root, home)
-    wanted("ExecStart=/usr/local/bin/serve" in root.shell(f"cat {home}/share/nadzsumek/farm@.service"), True)
-    return "unpacked and used"
+    assert "ExecStart=/usr/local/bin/serve" in root.shell(f"cat {home}/share/nadzsumek/farm@.service")
 
 
-def trials_of(room):
-    """Each trial, by its name."""
-    yield "packages_are_reproducible", lambda: packages_are_reproducible(room)
-    no_root = why_no_root()
-    if no_root:
-        print(f"tests/release: SKIPPED: the packages weren't installed, since {no_root}", flush=True)
-        return
-    root = []
-
-    def in_root(trial, ending):
-        def run():
-            if not root:
-                root.append(Root())
-            return trial(root[0], glob.glob(f"{room}/first/*{ending}")[0])
-
-        return run
-
-    yield "package_is_installed_and_removed", in_root(package_is_installed_and_removed, ".deb")
-    yield "archive_runs_where_it_is", in_root(archive_runs_where_it_is, ".tar.xz")
+def in_a_root(act: Callable[[Root, str], None], package: str) -> None:
+    """Does something in a child that has mounts of its own, which no other process sees and which go with it."""
+    if lacking := why_no_root():
+        pytest.skip(f"the packages weren't installed, since {lacking}")
+    child = os.fork()
+    if child == 0:
+        try:
+            assert ctypes.CDLL(None).unshare(CLONE_NEWNS) == 0
+            done(["mount", "--make-rprivate", "/"])
+            act(Root(), package)
+        except BaseException:
+            traceback.print_exc()
+            sys.stderr.flush()
+            os._exit(1)
+        os._exit(0)
+    assert os.waitpid(child, 0)[1] == 0, "the child says above what is wrong"
 
 
-def main(words):
-    if words not in ([], [INSIDE]):
-        sys.exit(__doc__)
-    if not words and not why_no_root():
-        # mounts of these trials are seen by no other process, and go with this one
-        os.execvp(
-            "unshare",
-            ["unshare", "--mount", "--propagation", "private", sys.executable, "-B", os.path.abspath(__file__), INSIDE],
-        )
-    failed = passed = 0
-    with tempfile.TemporaryDirectory() as room:
-        for name, trial in trials_of(room):
-            try:
-                told = trial()
-                passed += 1
-            except (AssertionError, OSError, LookupError, subprocess.TimeoutExpired) as error:
-                failed += 1
-                told = f"FAILED: {error}"
-            print(f"{name}: {told}", flush=True)
-    print(f"tests/release: {passed} passed, {failed} failed")
-    return 1 if failed else 0
+def test_package_is_installed_and_removed(packages: tuple[str, str]) -> None:
+    in_a_root(package_is_installed_and_removed, glob.glob(f"{packages[0]}/*.deb")[0])
 
 
-if __name__ == "__main__":
-    sys.exit(main(sys.argv[1:]))
+def test_archive_runs_where_it_is(packages: tuple[str, str]) -> None:
+    in_a_root(archive_runs_where_it_is, glob.glob(f"{packages[0]}/*.tar.xz")[0])

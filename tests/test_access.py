@@ -1,18 +1,12 @@
-#!/usr/bin/env -S python3 -B
-"""Tries who reaches a served farm, and by which means: `nc` and `socat` at a user's socket; accounts, each of which may
-open just the sockets that are given to it; a real `sshd` on a port of the loopback, with a key that is bound to
-`connect`, and with a socket that is forwarded; the installed commands, by accounts that have no prover; and the units by
-which systemd starts farms, also in a container that it boots.
+"""Who reaches a served farm, and by which means: `nc` and `socat` at a user's socket; accounts, each of which may open just the
+sockets that are given to it; a real `sshd` on a port of the loopback, with a key that is bound to `connect`, and with a socket that
+is forwarded; the installed commands, by accounts that have no prover; and the units by which systemd starts farms, also in a
+container that it boots.
 
-usage: tests/access [TRIAL ..]      all trials unless some are named
+These tests are made by root on Debian: they make three accounts with groups of their own, `nadz-farm`, `nadz-ann` and `nadz-bob`, and
+the groups `farm-nadz-ann` and `farm-nadz-bob` for sockets, and remove them at the end. What they need of Debian they install
+(netcat-openbsd, socat, openssh-server, systemd-container), and no service is started by that. All else is in a folder below /tmp."""
 
-It must be run by root: it makes three accounts with groups of their own, `nadz-farm`, `nadz-ann` and `nadz-bob`, and the
-groups `farm-nadz-ann` and `farm-nadz-bob` for sockets, and removes them at the end. What it needs of Debian it installs
-(netcat-openbsd, socat, openssh-server, systemd-container), and no service is started by that. All else is in a folder below
-/tmp, which is removed too.
-
-A line tells what each trial showed. The status is 1 if one failed, and 2 if it can't be tried here, with what is
-missing."""
 import grp
 import os
 import pwd
@@ -21,15 +15,17 @@ import shutil
 import signal
 import socket
 import subprocess
-import sys
 import tempfile
 import time
+from collections.abc import Iterator
 
-from booted import Booted, NotBooted
-from screens import CONTROL_D, Screen
-from serving_trials import plan_of_users, wanted
-from trials import TOP, built_program
+import pytest
+from support.booted import Booted, NotBooted
+from support.screens import CONTROL_D, Screen
+from support.serving_trials import plan_of_users
+from support.trials import TOP, program
 
+pytestmark = [pytest.mark.long, pytest.mark.alone]
 SECONDS = 60
 FARM, ANN, BOB = ACCOUNTS = ("nadz-farm", "nadz-ann", "nadz-bob")
 # Each command with the package of Debian that has it.
@@ -78,8 +74,9 @@ def done(call, text="", status=0, seconds=SECONDS, **more):
         check=False,
         **more,
     )
-    if status is not None and it.returncode != status:
-        raise AssertionError(f"{call}: status {it.returncode} in place of {status}: {it.stdout}")
+    assert (
+        status is None or it.returncode == status
+    ), f"{call}: status {it.returncode} in place of {status}: {it.stdout}"
     return it.stdout
 
 
@@ -159,7 +156,7 @@ class Place:
             [f"{TOP}/tools/install", "--draft", self.prefix],
             env={
                 **os.environ,
-                **{name.upper(): built_program(name) for name in ("farm", "farm_explain", "lab", "live")},
+                **{name.upper(): program(name) for name in ("farm", "farm_explain", "lab", "live")},
             },
         )
         with open(self.plan, "w", encoding="utf-8") as it:
@@ -198,6 +195,27 @@ class Place:
         return Up(self, more)
 
 
+@pytest.fixture(scope="module")
+def kept_place() -> Iterator[Place]:
+    """The accounts and the installed commands."""
+    if os.getuid() != 0:
+        pytest.skip("this makes accounts and starts an sshd, so it is for root")
+    try:
+        install()
+        with tempfile.TemporaryDirectory(prefix="nadz-") as room, Accounts(room):
+            os.chmod(room, 0o755)
+            yield Place(room)
+    except Missing as missing:
+        pytest.skip(f"{missing}")
+
+
+@pytest.fixture
+def place(kept_place: Place) -> Place:
+    """The same with a folder for the farm without any records."""
+    kept_place.begin()
+    return kept_place
+
+
 class Up:
     """A farm that is up until the end of a block."""
 
@@ -207,7 +225,6 @@ class Up:
     def __enter__(self):
         call = self.place.call(FARM, "serve", *self.more, self.place.plan, self.place.folder)
         with open(self.log, "wb") as log:
-            # pylint: disable-next=consider-using-with
             self.process = subprocess.Popen(call, stdin=subprocess.DEVNULL, stdout=log, stderr=log, cwd="/")
         end = time.monotonic() + SECONDS
         while True:
@@ -215,16 +232,15 @@ class Up:
                 told = log.read()
             if "their sockets are in" in told:
                 return self
-            if time.monotonic() > end or self.process.poll() is not None:
-                raise AssertionError(f"serve is not up: {told}")
+            assert time.monotonic() <= end and self.process.poll() is None, f"serve is not up: {told}"
             time.sleep(0.02)
 
     def __exit__(self, *_):
         self.process.send_signal(signal.SIGTERM)
-        wanted(self.process.wait(timeout=SECONDS), 0)
+        assert self.process.wait(timeout=SECONDS) == 0
 
 
-def nc_and_socat_speak(place):
+def test_nc_and_socat_speak(place: Place) -> None:
     """Lines that are there at once, and lines that are typed one after another."""
     socket_of = place.socket(ANN)
     text, told = "config 01000103\nlook 0\nlok 0\n", f"config -\n{BOOTING}error 5 verb\n"
@@ -234,9 +250,9 @@ def nc_and_socat_speak(place):
     }
     with place.serve():
         # the two lines before these are those by which serve asks for the users
-        wanted(place.by(FARM, *calls["nc"], text=text), told)
+        assert place.by(FARM, *calls["nc"], text=text) == told
     with place.serve():
-        wanted(place.by(FARM, *calls["socat"], text=text), told)
+        assert place.by(FARM, *calls["socat"], text=text) == told
         for call in (["nc.openbsd", "-U", socket_of], calls["socat"]):
             with subprocess.Popen(
                 place.call(FARM, *call), stdin=subprocess.PIPE, stdout=subprocess.PIPE, encoding="utf-8", cwd="/"
@@ -244,12 +260,11 @@ def nc_and_socat_speak(place):
                 for _ in range(3):
                     it.stdin.write("look 0\n")
                     it.stdin.flush()
-                    wanted(it.stdout.readline(), BOOTING)
+                    assert it.stdout.readline() == BOOTING
                 it.terminate()
                 it.wait()
         told = place.by(FARM, *calls["nc"], text="look 0\nlook").splitlines(keepends=True)
-        wanted(sorted(told), ["error: the last line has no line feed, so it is not sent\n", BOOTING])
-    return "each at once and line by line"
+        assert sorted(told) == ["error: the last line has no line feed, so it is not sent\n", BOOTING]
 
 
 def sockets_open_for(place):
@@ -268,7 +283,7 @@ def sockets_open_for(place):
     return told
 
 
-def rights_are_the_accounts(place):
+def test_rights_are_the_accounts(place: Place) -> None:
     """A socket opens for its owner and its group, and for nobody else. The operator's opens for the farm's account
     alone."""
     everyone = [(account, name) for account in ACCOUNTS for name in (ANN, BOB, "operator")]
@@ -279,25 +294,23 @@ def rights_are_the_accounts(place):
         (("--mode", "666"), ((ANN, ANN), (ANN, BOB), (BOB, ANN), (BOB, BOB))),
     ):
         with place.serve(*more):
-            wanted(sockets_open_for(place), {it: it[0] == FARM or it in opens for it in everyone})
+            assert sockets_open_for(place) == {it: it[0] == FARM or it in opens for it in everyone}
     with place.serve("--mode", "660", "--group", "farm-%u"):
         said = place.by(ANN, "socat", "-", f"UNIX-CONNECT:{place.socket(BOB)}", status=1)
-        wanted(DENIED in said, True)
+        assert DENIED in said
         said = place.by(ANN, "connect", place.folder, BOB, status=3)
         whose = f"the socket is for the account {FARM} and the group {group_of(BOB)}"
-        wanted(
-            said,
+        assert said == (
             f"connect: this account ({ANN}) may not speak as {BOB}: {whose}. If it is yours, ask the operator (serve "
-            "--mode, --group)\n",
+            "--mode, --group)\n"
         )
         said = place.by(ANN, "connect", place.folder, "operator", status=3)
-        wanted(
-            said,
+        assert said == (
             f"connect: this account ({ANN}) may not speak as operator: the socket is for the account {FARM} "
-            "alone. If it is yours, ask the operator (serve --mode, --group)\n",
+            "alone. If it is yours, ask the operator (serve --mode, --group)\n"
         )
-        wanted(DENIED in place.by(ANN, "ls", f"{place.folder}/records", status=2), True)
-        wanted(DENIED in place.by(ANN, "rm", "-f", place.socket(ANN), status=1), True)
+        assert DENIED in place.by(ANN, "ls", f"{place.folder}/records", status=2)
+        assert DENIED in place.by(ANN, "rm", "-f", place.socket(ANN), status=1)
         # a member of the group that hasn't got it yet, as one who came into it after the login
         done(["usermod", "--append", "--groups", group_of(BOB), ANN])
         said = done(
@@ -305,35 +318,31 @@ def rights_are_the_accounts(place):
             status=3,
             cwd="/",
         )
-        wanted(
-            said,
+        assert said == (
             f"connect: this account ({ANN}) may not speak as {BOB} yet: it came into the group {group_of(BOB)} after it "
-            "had logged in. Log in again\n",
+            "had logged in. Log in again\n"
         )
-        wanted(place.by(ANN, "connect", place.folder, BOB, text="look 0\n"), BOOTING)
+        assert place.by(ANN, "connect", place.folder, BOB, text="look 0\n") == BOOTING
         done(["gpasswd", "--delete", ANN, group_of(BOB)])
         os.chmod(place.folder, 0o700)
-        wanted(
-            place.by(ANN, "connect", place.folder, ANN, status=3),
+        assert place.by(ANN, "connect", place.folder, ANN, status=3) == (
             f"connect: this account ({ANN}) may not enter the folder "
-            f"{place.folder}: ask the operator for its mode\n",
+            f"{place.folder}: ask the operator for its mode\n"
         )
         os.chmod(place.folder, 0o755)
     # the farm's account may not write where the groups that users have for their files may
     own = f"{place.room}/{ANN}/own"
     place.by(ANN, "sh", "-c", f"umask 002; mkdir -p {own}; echo hers > {own}/file")
     os.chmod(f"{place.room}/{ANN}", 0o755)
-    wanted(place.by(ANN, "stat", "-c", "%A %G", f"{own}/file"), f"-rw-rw-r-- {ANN}\n")
-    wanted(DENIED in place.by(FARM, "sh", "-c", f"echo his > {own}/file", status=None), True)
+    assert place.by(ANN, "stat", "-c", "%A %G", f"{own}/file") == f"-rw-rw-r-- {ANN}\n"
+    assert DENIED in place.by(FARM, "sh", "-c", f"echo his > {own}/file", status=None)
     said = place.by(ANN, "serve", place.plan, place.folder, status=1)
-    wanted(
-        f"serve: {place.folder} belongs to the account {FARM}, and this is {ANN}: start serve as that account" in said,
-        True,
+    assert (
+        f"serve: {place.folder} belongs to the account {FARM}, and this is {ANN}: start serve as that account" in said
     )
-    return f"{4 * len(everyone)} openings"
 
 
-def commands_are_installed(place):
+def test_commands_are_installed(place: Place) -> None:
     """Everything that is installed, by an account without a prover: the programs, a terminal, and a class of its
     own."""
     script = f"""set -e; cd; ! command -v rt; ! command -v rattle
@@ -348,25 +357,21 @@ printf 'Ada\\n' > names; class --students names --nodes 1 one > class.told; clas
 printf 'join 0 1\\nload 0 long\\n' | connect one/farm-1 ada; class stop one; lab rows one/farm-1/records/ada.replay | tail -n 1"""
     with place.serve("--mode", "660", "--group", "farm-%u"):
         told = place.by(ANN, "bash", "-c", script).splitlines()
-    wanted(
-        told[:-1],
-        [
-            "config -",
-            "boot 0 17",
-            'collect 0 68656c6c6f0a  "hello\\n"',
-            "None Loaded(boot=16, pokes=0) b'hello\\n'",
-            IDLE,
-            "bob peek 0 00000000",
-            "stopp",
-            "1",
-            "farm-1: up, 1 user",
-            "config -",
-            "boot 0 9",
-            "farm-1: off",
-        ],
-    )
-    wanted(re.fullmatch(r".*: \d+ rows, 0 wrong", told[-1]) is not None, True)
-    return f"{len(told)} lines, by {ANN}"
+    assert told[:-1] == [
+        "config -",
+        "boot 0 17",
+        'collect 0 68656c6c6f0a  "hello\\n"',
+        "None Loaded(boot=16, pokes=0) b'hello\\n'",
+        IDLE,
+        "bob peek 0 00000000",
+        "stopp",
+        "1",
+        "farm-1: up, 1 user",
+        "config -",
+        "boot 0 9",
+        "farm-1: off",
+    ]
+    assert re.fullmatch(r".*: \d+ rows, 0 wrong", told[-1]) is not None
 
 
 class Sshd:
@@ -404,7 +409,6 @@ AllowUsers {users}
         with open(f"{room}/sshd_config", "w", encoding="utf-8") as it:
             it.write(self.CONFIG.format(port=self.port, room=room, users=f"{ANN} {BOB}"))
         with open(f"{room}/sshd.log", "wb") as log:
-            # pylint: disable-next=consider-using-with
             self.process = subprocess.Popen(
                 [shutil.which("sshd", path=PATH), "-D", "-e", "-f", f"{room}/sshd_config"],
                 stdin=subprocess.DEVNULL,
@@ -448,32 +452,28 @@ AllowUsers {users}
         ]
 
 
-def ssh_brings_a_terminal(place):
+def test_ssh_brings_a_terminal(place: Place) -> None:
     """A key that is bound to `connect` opens a terminal, whatever the client asks for, and nothing else."""
     with place.serve("--mode", "660", "--group", "farm-%u"), Sshd(place) as sshd:
         told = done(
             [*sshd.call(ANN, "bound-key"), "id; cat /etc/passwd"], "join 0 1\nload 0 hello.s\ncollect 0\nlok\n", 1
         )
-        wanted(
-            sorted(told.splitlines()),
-            [
-                "boot 0 17",
-                'collect 0 68656c6c6f0a  "hello\\n"',
-                "config -",
-                "error: there is no verb 'lok'. Is it look? Try: look 0",
-            ],
-        )
+        assert sorted(told.splitlines()) == [
+            "boot 0 17",
+            'collect 0 68656c6c6f0a  "hello\\n"',
+            "config -",
+            "error: there is no verb 'lok'. Is it look? Try: look 0",
+        ]
         with Screen(sshd.call(ANN, "bound-key", "-tt")) as it:
             it.until(f"{ANN}> ")
             it.line("loo\t0", ["look 0 idle overruns 0 0 0 0"])
             it.press(CONTROL_D)
-            wanted(it.end()[1], 0)
+            assert it.end()[1] == 0
         told = done([*sshd.call(ANN, f"key-{ANN}"), f"{place.prefix}/bin/connect", place.folder, ANN], "look 0\n")
-        wanted(told, "look 0 idle overruns 0 0 0 0\n")
+        assert told == "look 0 idle overruns 0 0 0 0\n"
         told = done([*sshd.call(BOB, f"key-{BOB}"), f"{place.prefix}/bin/connect", place.folder, ANN], "look 0\n", 1)
-        wanted(f"may not speak as {ANN}" in told, True)
-        wanted(DENIED in done(sshd.call(BOB, f"key-{ANN}"), status=255), True)
-    return "bound to connect, and by an account's own key"
+        assert f"may not speak as {ANN}" in told
+        assert DENIED in done(sshd.call(BOB, f"key-{ANN}"), status=255)
 
 
 def forwarded(place, sshd, account, key):
@@ -489,10 +489,10 @@ def forwarded(place, sshd, account, key):
             end = time.monotonic() + SECONDS
             while not os.path.exists(here) and time.monotonic() < end and it.poll() is None:
                 time.sleep(0.02)
-            wanted(os.stat(here).st_mode & 0o777, 0o600)
+            assert os.stat(here).st_mode & 0o777 == 0o600
             told = done(["nc.openbsd", "-U", "-N", here], "look 0\n", status=None)
             again = done([f"{place.prefix}/bin/connect", place.room, "forwarded"], "look 0\n", status=None)
-            wanted(again == told or "the farm has ended the connection" in again, True)
+            assert again == told or "the farm has ended the connection" in again
         finally:
             it.terminate()
             said = it.communicate(timeout=SECONDS)[0]
@@ -501,15 +501,14 @@ def forwarded(place, sshd, account, key):
     return told, said
 
 
-def ssh_forwards_a_socket(place):
+def test_ssh_forwards_a_socket(place: Place) -> None:
     """`ssh -L` brings a socket here with the rights of the account there."""
     with place.serve("--mode", "660", "--group", "farm-%u"), Sshd(place) as sshd:
         told, said = forwarded(place, sshd, ANN, f"key-{ANN}")
-        wanted((told, "open failed" in said), (BOOTING, False))
+        assert (told, "open failed" in said) == (BOOTING, False)
         for account, key in ((BOB, f"key-{BOB}"), (ANN, "bound-key")):
             told, said = forwarded(place, sshd, account, key)
-            wanted((told, "open failed" in said), ("", True))
-    return "ann's for ann, and for nobody else"
+            assert (told, "open failed" in said) == ("", True)
 
 
 # How exposed a unit may be, in tenths of systemd's ten points.
@@ -543,7 +542,7 @@ MISTAKES = (
 )
 
 
-def units_are_right(place):
+def test_units_are_right(place: Place) -> None:
     """What systemd says of the units, which aren't started, and of such with a mistake, so that it is seen to look. What both
     units have is the same."""
     folder, told, common = f"{place.room}/units", [], []
@@ -552,20 +551,19 @@ def units_are_right(place):
         with open(f"{place.prefix}/share/nadzsumek/{name}", encoding="utf-8") as it:
             unit = it.read()
         said, fits, exposed = said_of_unit(folder, name, unit)
-        wanted((name, said, fits, exposed * 10 <= MOST_EXPOSED), (name, "", True, True))
+        assert (name, said, fits, exposed * 10 <= MOST_EXPOSED) == (name, "", True, True)
         told.append(f"{name} {exposed}")
         for part, other, is_mistake, is_exposed in MISTAKES:
-            wanted(unit.count(part), 1)
+            assert unit.count(part) == 1
             said, fits, _ = said_of_unit(folder, name, unit.replace(part, other))
-            wanted((name, part, bool(said), is_exposed and fits), (name, part, is_mistake, False))
+            assert (name, part, bool(said), is_exposed and fits) == (name, part, is_mistake, False)
         lines = unit.partition("[Service]")[2].splitlines()
         common.append(
             [it for it in lines if not re.search("%[if]|MemoryMax|/home|ROOMS|^# What each domain may take", it)]
         )
         for part in (" --sync ", "\nMemoryMax=", "\nOOMPolicy=continue\n"):
-            wanted((part, part in unit), (part, True))
-    wanted(common[0], common[1])
-    return f"{', '.join(told)}, and {2 * len(MISTAKES)} mistakes"
+            assert (part, part in unit) == (part, True)
+    assert common[0] == common[1]
 
 
 # Where the installed commands are in a machine of its own.
@@ -573,7 +571,7 @@ THERE = "/opt/nadzsumek"
 LOOK = "look 0\n"
 
 
-def units_keep_farms(place):
+def test_units_keep_farms(place: Place) -> None:
     """The units by a real systemd, in a container of its own: who may speak, what the processes may do, what is started again
     when it was killed, what is stopped, and what is there after the next boot."""
     try:
@@ -591,11 +589,10 @@ def units_keep_farms(place):
             machine.halt()
             machine.boot()
             told = machine.until(*by_user(ANN, "/srv/course/farm-1", ANN), text=LOOK)
-            wanted(told, "look 0 idle overruns 0 0 0 0\n")
-            wanted(machine.call("systemctl", "is-active", "farm@lab")[1], "inactive\n")
+            assert told == "look 0 idle overruns 0 0 0 0\n"
+            assert machine.call("systemctl", "is-active", "farm@lab")[1] == "inactive\n"
     except NotBooted as error:
-        return f"not tried: {error}"
-    return "a farm, and a class over a boot"
+        pytest.skip(f"{error}")
 
 
 def by_user(account, folder, name):
@@ -608,19 +605,18 @@ def one_farm_is_kept(machine):
     folder = "/var/lib/nadzsumek/lab"
     machine.must("systemctl", "start", "farm@lab")
     machine.until(*by_user(ANN, folder, ANN), text=LOOK, starts=BOOTING)
-    wanted(machine.call(*by_user(BOB, folder, BOB), text=LOOK), (0, BOOTING))
+    assert machine.call(*by_user(BOB, folder, BOB), text=LOOK) == (0, BOOTING)
     for account, name in ((ANN, BOB), (BOB, ANN), (ANN, "operator")):
         status, told = machine.call(*by_user(account, folder, name), text=LOOK)
-        wanted((account, name, status, "may not speak" in told), (account, name, 1, True))
+        assert (account, name, status, "may not speak" in told) == (account, name, 1, True)
     rows = {
         f"{ANN}.sock": f"{group_of(ANN)} 660",
         f"{BOB}.sock": f"{group_of(BOB)} 660",
         "operator.sock": f"{FARM} 600",
         "records": f"{FARM} 700",
     }
-    wanted(
-        machine.must("stat", "-c", "%U %G %a", *(f"{folder}/{it}" for it in rows)),
-        "".join(f"{FARM} {it}\n" for it in rows.values()),
+    assert machine.must("stat", "-c", "%U %G %a", *(f"{folder}/{it}" for it in rows)) == "".join(
+        f"{FARM} {it}\n" for it in rows.values()
     )
     serve = machine.must("cat", f"{folder}/lock").strip()
     may_do_little(machine, serve)
@@ -628,24 +624,25 @@ def one_farm_is_kept(machine):
     for number in (live, serve):
         machine.must("kill", "-9", number)
         machine.until(*by_user(ANN, folder, ANN), text=LOOK, starts=BOOTING)
-    wanted(machine.must("cat", f"{folder}/lock").strip() == serve, False)
+    assert machine.must("cat", f"{folder}/lock").strip() != serve
     machine.must("systemctl", "stop", "farm@lab")
-    wanted(machine.must("ls", folder), "lock\nplan\nrecords\n")
-    wanted(machine.must("systemctl", "show", "-p", "Result", "farm@lab"), "Result=success\n")
+    assert machine.must("ls", folder) == "lock\nplan\nrecords\n"
+    assert machine.must("systemctl", "show", "-p", "Result", "farm@lab") == "Result=success\n"
 
 
 def may_do_little(machine, number):
     """What a process of a farm can't do."""
     status = machine.must("cat", f"/proc/{number}/status")
-    wanted(
-        [re.search(f"^{it}:\\s*(\\S+)$", status, re.MULTILINE)[1] for it in ("NoNewPrivs", "Seccomp", "CapBnd")],
-        ["1", "2", "0" * 16],
-    )
+    assert [re.search(f"^{it}:\\s*(\\S+)$", status, re.MULTILINE)[1] for it in ("NoNewPrivs", "Seccomp", "CapBnd")] == [
+        "1",
+        "2",
+        "0" * 16,
+    ]
     inside = ["nsenter", "-t", number, "-m", "-n"]
     for path in ("/etc/new", "/var/lib/nadzsumek/new", "/opt/new"):
-        wanted((path, "Read-only file system" in machine.call(*inside, "touch", path)[1]), (path, True))
-    wanted(machine.must(*inside, "python3", "-c", "import socket; print(socket.if_nameindex())"), "[(1, 'lo')]\n")
-    wanted(machine.must(*inside, "ls", "-A", "/home", "/root"), "/home:\n\n/root:\n")
+        assert (path, "Read-only file system" in machine.call(*inside, "touch", path)[1]) == (path, True)
+    assert machine.must(*inside, "python3", "-c", "import socket; print(socket.if_nameindex())") == "[(1, 'lo')]\n"
+    assert machine.must(*inside, "ls", "-A", "/home", "/root") == "/home:\n\n/root:\n"
 
 
 def a_class_is_kept(machine):
@@ -678,68 +675,18 @@ def a_class_is_kept(machine):
         machine.must("systemctl", "enable", "--now", unit)
     for farm, name in (("farm-1", ANN), ("farm-2", BOB)):
         told = machine.until(*by_user(name, f"/srv/course/{farm}", name), text="join 0 16\nboot 0 21f5\nlook 0\n")
-        wanted(told, "config -\nboot 0 3\nlook 0 idle overruns 0 0 0 0\n")
+        assert told == "config -\nboot 0 3\nlook 0 idle overruns 0 0 0 0\n"
     rows = machine.must("runuser", "-u", FARM, "--", f"{THERE}/bin/class", "status", "/srv/course").splitlines()[1:3]
-    wanted([row.split()[7] for row in rows], ["quiet", "quiet"])
+    assert [row.split()[7] for row in rows] == ["quiet", "quiet"]
     # what is kept of the class is what runs
     for farm in ("farm-1", "farm-2"):
         serve = machine.must("cat", f"/srv/course/{farm}/lock").strip()
         words = machine.must("cat", f"/proc/{serve}/cmdline").split("\0")
-        wanted(
-            [words[words.index(it) + 1] for it in ("--mode", "--group", "--room", "--record-room")],
-            ["660", "farm-%u", "32M", "256M"],
-        )
-    wanted(machine.must(f"{THERE}/bin/class", "stop", "/srv/course"), "farm-1: off\nfarm-2: off\n")
+        assert [words[words.index(it) + 1] for it in ("--mode", "--group", "--room", "--record-room")] == [
+            "660",
+            "farm-%u",
+            "32M",
+            "256M",
+        ]
+    assert machine.must(f"{THERE}/bin/class", "stop", "/srv/course") == "farm-1: off\nfarm-2: off\n"
     machine.until("sh", "-c", f"systemctl is-active '{units[0]}' '{units[1]}' || true", starts="inactive\ninactive\n")
-
-
-TRIALS = (
-    nc_and_socat_speak,
-    rights_are_the_accounts,
-    commands_are_installed,
-    ssh_brings_a_terminal,
-    ssh_forwards_a_socket,
-    units_are_right,
-    units_keep_farms,
-)
-
-
-def tried(chosen):
-    """Runs the trials, and tells how many failed."""
-    failed = 0
-    with tempfile.TemporaryDirectory(prefix="nadz-") as room, Accounts(room):
-        os.chmod(room, 0o755)
-        place = Place(room)
-        for trial in chosen:
-            begun = time.monotonic()
-            try:
-                place.begin()
-                told = trial(place)
-            except (AssertionError, OSError, subprocess.TimeoutExpired) as error:
-                failed += 1
-                told = f"FAILED: {error!r}"
-            print(f"{trial.__name__}: {told} ({time.monotonic() - begun:.1f} s)", flush=True)
-    return failed
-
-
-def main(words):
-    unknown = {*words} - {it.__name__ for it in TRIALS}
-    try:
-        if unknown:
-            raise Missing(
-                f"there is no trial {', '.join(sorted(unknown))}: there are {', '.join(it.__name__ for it in TRIALS)}"
-            )
-        if os.getuid() != 0:
-            raise Missing("this makes accounts and starts an sshd, so run it as root")
-        install()
-        chosen = [it for it in TRIALS if not words or it.__name__ in words]
-        failed = tried(chosen)
-    except Missing as missing:
-        print(f"tests/access: {missing}", file=sys.stderr)
-        return 2
-    print(f"{len(chosen) - failed} passed, {failed} failed")
-    return 1 if failed else 0
-
-
-if __name__ == "__main__":
-    sys.exit(main(sys.argv[1:]))
