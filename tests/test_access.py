@@ -154,10 +154,7 @@ class Place:
         self.plan, self.process, self.path = f"{room}/plan.toml", None, f"{room}/prefix/bin:/usr/bin:/bin"
         done(
             [f"{TOP}/tools/install", "--draft", self.prefix],
-            env={
-                **os.environ,
-                **{name.upper(): program(name) for name in ("farm", "farm_explain", "lab", "live")},
-            },
+            env={**os.environ, **{name.upper(): program(name) for name in ("farm", "farm_explain", "lab", "live")}},
         )
         with open(self.plan, "w", encoding="utf-8") as it:
             it.write(plan_of_users([ANN, BOB]))

@@ -140,8 +140,7 @@ after 1020 of 1020 events: step 0 @farm = ran
 
 def test_lists_events() -> None:
     assert said(
-        LOOPED,
-        ["go 20", "events 19 2", "events 20", "events 1 1", "go 500", "events 500 1", "go 1020", "events 1020"],
+        LOOPED, ["go 20", "events 19 2", "events 20", "events 1 1", "go 500", "events 500 1", "go 1020", "events 1020"]
     ) == (
         """\
 after 20 of 1020 events: move 0 @farm = passed
@@ -304,8 +303,7 @@ def test_until_a_fault() -> None:
     """ajw 4, ldc 0, ldnl 0: the third Step faults. The boot message of 4 bytes takes 4 + 4 + 12 events."""
     record = by_hand("b44030", 2) + "0 step 0 @farm = fault 1\n0 look 0 @0 = halted 1 overruns 0 0 0 0\n"
     assert said(
-        record,
-        ["back until fault", "back until fault", "go 0", "until fault", "until fault", "look", "go 22", "look"],
+        record, ["back until fault", "back until fault", "go 0", "until fault", "until fault", "look", "go 22", "look"]
     ) == (
         """\
 after 23 of 24 events: step 0 @farm = fault 1
@@ -339,8 +337,7 @@ def test_until_a_loss() -> None:
         )
     )
     assert said(
-        record,
-        ["go 0", "until lost", "until lost", "go 11", "back until lost", "until byte 7", "go 9", "until byte 7"],
+        record, ["go 0", "until lost", "until lost", "go 11", "back until lost", "until byte 7", "go 9", "until byte 7"]
     ) == (
         """\
 after 0 of 11 events

@@ -275,9 +275,9 @@ ELSEWHERE = [
 def test_words_of_elsewhere_have_hints() -> None:
     """A word of another system has a hint that fits; one that is nearly a verb has its verb; and `exit` and `quit` end."""
     text = text_of(f"{TOP}/crates/t414_assembly/src/mnemonics.rt")
-    names = {*re.findall(r'^    \("(\w+)", 0x', text, re.M)} | {
-        *re.findall(r'"(\w+)"', re.search(r"\d+\] = \[(.*?)\];", text, re.S)[1])
-    }
+    others = re.search(r"\d+\] = \[(.*?)\];", text, re.S)
+    assert others
+    names = {*re.findall(r'^    \("(\w+)", 0x', text, re.M), *re.findall(r'"(\w+)"', others[1])}
     with Served(PLAN) as it:
         lines, status = typed(it, "ann", "".join(f"{line}\n" for line, _ in ELSEWHERE))
         assert (len(lines), status) == (len(ELSEWHERE), 1)
@@ -298,7 +298,7 @@ def test_words_of_elsewhere_have_hints() -> None:
         assert it.stop()[0] == 0
 
 
-def lines_of(sheet):
+def lines_of(sheet: str) -> tuple[str, list[str]]:
     """The lines that a sheet tells to type, and the call of the terminal."""
     with open(sheet, encoding="utf-8") as it:
         lines = [line.strip() for line in it if line.startswith("    ")]

@@ -365,11 +365,7 @@ CONFIGS = [f"0 config {it} @0 = nothing\n" for it in ("01", "00", "07", "03")]
 # ready, and 01 07 03 would join others.
 @pytest.mark.parametrize(
     ("whole", "torn", "rest"),
-    [
-        (HEAD + CONFIGS[0] + CONFIGS[1], "0 config 0", "0703"),
-        (HEAD, "0 con", "01000703"),
-        ("", HEAD[:100], "01000703"),
-    ],
+    [(HEAD + CONFIGS[0] + CONFIGS[1], "0 config 0", "0703"), (HEAD, "0 con", "01000703"), ("", HEAD[:100], "01000703")],
 )
 def test_torn_records_go_on(whole: str, torn: str, rest: str, folder: str) -> None:
     """A record whose last line or head is torn is cut there as the farm goes on, and what follows in it is read again: by the farm

@@ -7,11 +7,11 @@ import os
 import re
 import subprocess
 import time
-from collections.abc import Callable
+from collections.abc import Callable, Iterator
 
 from support.courses import Course
 from support.serving_trials import Served
-from support.trials import TOP, put, text_of
+from support.trials import TOP, put, run_text, text_of
 
 PLAN = """version = 3
 
@@ -140,7 +140,8 @@ def test_serve_says_rooms() -> None:
     with Served(PLAN, starts=False) as it:
         noting(it)
         told = []
-        for words in ([], ["--room", "64G", "--record-room", "1M"], ["--record-room", "64G"]):
+        rows: list[list[str]] = [[], ["--room", "64G", "--record-room", "1M"], ["--record-room", "64G"]]
+        for words in rows:
             it.start(*words)
             assert [word for word in words if word not in words_got(it)[-1].split()] == []
             status, errors = it.stop()
@@ -178,7 +179,7 @@ def test_serve_says_rooms() -> None:
 
 
 @contextlib.contextmanager
-def noting_course(*more):
+def noting_course(*more: str) -> Iterator[tuple[Course, Callable[[], list[str]]]]:
     """A class of one student whose farm is run by the program that says notes, and the words that this got."""
     with Course(1, *more) as it, Served(PLAN, starts=False) as room:
         noting(room)

@@ -113,10 +113,10 @@ def mistakes(lines: list[str]) -> Iterator[tuple[str, list[str]]]:
         ]
     yield "no sync of the folder", [it for it in lines if it != "sync FOLDER"]
     for at in range(2, len(lines)):
-        name = RECORDS.get(lines[at].removeprefix("answer ").split(" ")[0])
+        whose = RECORDS.get(lines[at].removeprefix("answer ").split(" ")[0])
         before = [(what, record_of(path)) for what, _, path in (it.partition(" ") for it in lines[at - 2 : at])]
         # only where the sync follows its write at once is it sure that the swap is a mistake
-        if lines[at].startswith("answer ") and before == [("write", name), ("sync", name)]:
+        if lines[at].startswith("answer ") and before == [("write", whose), ("sync", whose)]:
             yield f"call {at + 1} before call {at}", [*lines[: at - 1], lines[at], lines[at - 1], *lines[at + 1 :]]
 
 

@@ -24,12 +24,7 @@ RIGHT: dict[str, Any] = {
     "instances": [{"line": 2, "column": 1, "procedure": 0}],
     "folds": [{"Two": ["Add", 3, 4, 7]}, {"One": ["Negate", 1, 0xFFFFFFFF]}],
     "expressions": [{"Number": 7}, {"Variable": 0}],
-    "processes": [
-        {"Assign": [0, 0]},
-        {"Line": [3, 3, 0]},
-        {"Output": [{"Link": 0}, "Word", 1]},
-        {"Sequence": [1, 2]},
-    ],
+    "processes": [{"Assign": [0, 0]}, {"Line": [3, 3, 0]}, {"Output": [{"Link": 0}, "Word", 1]}, {"Sequence": [1, 2]}],
 }
 DEEP = 5_000
 # ajw 3, sethalterr, ldc 7, stl 1, then mint, as the output of link 0 is at 80000000, ldl 1 and outword; stopp.

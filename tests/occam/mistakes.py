@@ -270,9 +270,7 @@ HEADS = [
     ("CHAN without OF", (5, 13), "%CHAN INT q.9:"),
 ]
 # Mistakes behind the program.
-BEHIND = [
-    ("a second process", (15,), "@SKIP"),
-]
+BEHIND = [("a second process", (15,), "@SKIP")]
 
 
 def at_mark(lines):

@@ -81,10 +81,7 @@ class Booted:
         assert self.process
         with open(f"/proc/{self.process.pid}/task/{self.process.pid}/children", encoding="ascii") as it:
             self.number = next(iter(it.read().split()), "")
-        return self.number != "" and self.call("systemctl", "is-system-running")[1].strip() in (
-            "running",
-            "degraded",
-        )
+        return self.number != "" and self.call("systemctl", "is-system-running")[1].strip() in ("running", "degraded")
 
     def call(self, *words: str, text: str = "") -> tuple[int, str]:
         """The status of a call there, and what it says."""

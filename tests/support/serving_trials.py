@@ -11,7 +11,6 @@ import threading
 import time
 from collections.abc import Iterable, Iterator, Sequence
 
-from support.live_lines import PLAN
 from support.trials import TOP, program
 
 SECONDS, START_SECONDS = 20, 120
