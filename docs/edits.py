@@ -1,6 +1,6 @@
 """The table of wrong bodies in EVIDENCE.md, a line for each crate that has some: how many there are, how many are the gate's, and
-on which day all that were there then were last tried and refused. `tests/wrong_bodies --table` writes it, and `docs/check`
-compares it. The days are in docs/tried.txt, where `tests/wrong_bodies --record CRATE..` writes them."""
+on which day all that were there then were last tried and refused. `tools/wrong_bodies --table` writes it, and `docs/check`
+compares it. The days are in docs/tried.txt, where `tools/wrong_bodies --record CRATE..` writes them."""
 
 import re
 

@@ -15,15 +15,15 @@ import shutil
 import signal
 import subprocess
 import time
-import tomllib
 from collections.abc import Iterator
 from pathlib import Path
 from typing import Any
 
 import pytest
-from browser import Browser
-from live_lines import PINGS, PINGS_PLAN, Live, wanted
-from trials import STORED, TOP, built, contents, run, scripts
+import tomllib
+from support.browser import Browser
+from support.live_lines import PINGS, PINGS_PLAN, Live
+from support.trials import EXAMPLES, HELPED_NAMES, LAB, PLAIN_NAMES, STORED, STORED_RUN, TOP, contents, program, run
 
 PICTURES = os.environ.get("PICTURES")
 PAGE = Path(TOP, "nadzsumek/film")
@@ -64,7 +64,7 @@ CUT = """[...document.querySelectorAll("html, header, section, #lanes, #hosts, #
 
 
 def lab(words: list[str], text: bytes = b"") -> tuple[int | None, str, str]:
-    status, out, errors = run([built("lab"), *words], text)
+    status, out, errors = run([LAB, *words], text)
     return status, out.decode(), errors.decode()
 
 
@@ -84,7 +84,7 @@ class Film:
         begun = time.monotonic()
         status, page, errors = lab(["film", str(path), *words])
         self.made = time.monotonic() - begun
-        wanted((status, errors), (0, ""))
+        assert (status, errors) == (0, "")
         self.path, self.bytes = f"{folder}/page.html", len(page.encode())
         Path(self.path).write_text(page, encoding="utf-8")
         self.opened = browser.open(self.path)
@@ -117,7 +117,7 @@ class Film:
         for width, height in SIZES:
             self.browser.size(width, height)
             self.browser.look("new Promise((done) => requestAnimationFrame(() => requestAnimationFrame(done)))")
-            wanted((width, self.browser.look(CUT)), (width, []))
+            assert (width, self.browser.look(CUT)) == (width, [])
 
     def pictures(self, name: str, event: int) -> None:
         """Puts pictures into the folder of pictures, if there is one."""
@@ -183,7 +183,7 @@ def asked(record: str, events: int, lines: list[str]) -> list[str]:
         f"{it}\n" for it in lines
     )
     status, out, errors = lab(["replay"], text.encode())
-    wanted((status, errors), (0, ""))
+    assert (status, errors) == (0, "")
     return out.splitlines()[-len(lines) :]
 
 
@@ -204,13 +204,13 @@ def is_as_replayed(film: Film, events: int) -> Any:
     reads = [f"4097 times 0 read {host} @{user}" for host, (user, _) in enumerate(hosts)]
     told = asked(film.record, events, lines + reads)
     shown = film.go(events)
-    wanted(shown["event"], events)
-    wanted([it["look"] for it in shown["nodes"]] + [shown["words"]], told[: len(lines)])
+    assert shown["event"] == events
+    assert [it["look"] for it in shown["nodes"]] + [shown["words"]] == told[: len(lines)]
     for host, answer in enumerate(told[len(lines) :]):
         bytes_there = [it for it in spread(answer) if it != "none"]
         queue = shown["queues"][f"received-{host}"]
         count = f"{len(bytes_there):,}" + (", the last 64 are" if len(bytes_there) > 64 else "")
-        wanted(queue, {"told": f"received and not read: {count}", "bytes": bytes_there[-64:]})
+        assert queue == {"told": f"received and not read: {count}", "bytes": bytes_there[-64:]}
     return shown
 
 
@@ -249,13 +249,13 @@ def is_as_peeked(film: Film, events: int, shown: Any) -> int:
         ]
         told = asked(film.record, events, begin + peeks)[len(begin) :]
         peeked = bytes.fromhex("".join("".join(spread(it)) for it in told[2::3]))
-        wanted(code.hex(), peeked[first & 3 :][: len(code)].hex())
+        assert code.hex() == peeked[first & 3 :][: len(code)].hex()
         count += len(code)
         for row in seen["rows"]:
             status, text, _ = lab(["disassemble"], row[1].encode())
             # bytes that the assembler would spell otherwise are several lines there
             if status == 0 and text.count("\n") == 1:
-                wanted(row[2], text.strip())
+                assert row[2] == text.strip()
     return count
 
 
@@ -274,7 +274,7 @@ def test_scripts_are_read_by_a_second_reader(script: str) -> None:
     """Node finds no mistake in the scripts of the page, if it is there."""
     node = shutil.which("node", path="/usr/bin:/usr/local/bin") or pytest.skip("there is no node")
     status, _, errors = run([node, "--check", str(PAGE / script)])
-    wanted((status, errors), (0, b""))
+    assert (status, errors) == (0, b"")
 
 
 def documented_merge() -> Any:
@@ -292,29 +292,26 @@ def test_json_as_replayed(tmp_path: Path) -> None:
     record, path = worked_record(), tmp_path / "record.replay"
     path.write_text(record, encoding="utf-8")
     status, out, errors = lab(["film", str(path), "--json"])
-    wanted((status, errors), (0, ""))
+    assert (status, errors) == (0, "")
     film = json.loads(out)
-    wanted((film["version"], film["sources"], film["is_cut"], film["goes_on"]), (1, [], False, False))
+    assert (film["version"], film["sources"], film["is_cut"], film["goes_on"]) == (1, [], False, False)
     facts = dict(film["first"])
     frames = [dict(facts)]
     for line in film["lines"]:
         for change in line["then"]:
             merge(facts, change)
             frames.append(dict(facts))
-    wanted([it["recorded"] for it in frames], list(range(events_in(record) + 1)))
+    assert [it["recorded"] for it in frames] == list(range(events_in(record) + 1))
     for event, it in enumerate(frames):
         words = [(port["physical"], it[f"output {output} word"]) for output, port in enumerate(film["plan"]["ports"])]
         shown = " ".join(f"{port}:{word}" for port, word in sorted(words) if word != "0") or "-"
         look, told, read = asked(record, event, ["0 look 0 @0", "words", "4097 times 0 read 0 @0"])
         received = "".join(byte for byte in spread(read) if byte != "none")
-        wanted((event, it["node 0 look"], shown, it.get("host 0 received", "")), (event, look, told, received))
+        assert (event, it["node 0 look"], shown, it.get("host 0 received", "")) == (event, look, told, received)
     # the handbook's Steps of the code, as in registers_by_hand; nothing runs before the boot has ended, nor when the node has halted
     registers = [[it.get(f"node 0 {name}") for name in ("Iptr", "W", "A")] for it in frames]
-    wanted(
-        (registers[38], registers[45], registers[50]),
-        ([None] * 3, [0x8000004D, 0x80000060, 0x2A], [None] * 3),
-    )
-    wanted(frames[45]["node 0 memory 80000040"][16:32], CODE)
+    assert (registers[38], registers[45], registers[50]) == ([None] * 3, [0x8000004D, 0x80000060, 0x2A], [None] * 3)
+    assert frames[45]["node 0 memory 80000040"][16:32] == CODE
 
 
 def test_page_is_one_file(tmp_path: Path) -> None:
@@ -324,11 +321,11 @@ def test_page_is_one_file(tmp_path: Path) -> None:
     source.write_text("ajw 4  -- </script><script>alert()</script>\nldc 7\nj 1\n", encoding="utf-8")
     words = ["film", str(record), "--program", "0", str(source)]
     status, page, errors = lab(words)
-    wanted((status, errors), (0, ""))
+    assert (status, errors) == (0, "")
     assert not re.search(r"<link|<script[^>]* src|https?://(?!www\.w3\.org/2000/svg)", page)
-    wanted((page.count("alert()"), page.count("<script>alert")), (1, 0))
+    assert (page.count("alert()"), page.count("<script>alert")) == (1, 0)
     (tmp_path / "page.html").write_text(page, encoding="utf-8")
-    wanted(json_of(f"{tmp_path}/page.html"), json.loads(lab([*words, "--json"])[1]))
+    assert json_of(f"{tmp_path}/page.html") == json.loads(lab([*words, "--json"])[1])
 
 
 FAKE = """#!/bin/sh
@@ -352,7 +349,7 @@ def fake_lab(tmp_path: Path) -> Path:
 
 def test_what_is_no_film_is_handed_on(fake: Path) -> None:
     for word, ended in (("help", (0, b"Usage: lab film\n", b"")), ("wrong", (4, b"", b"wrong\n"))):
-        wanted(run([f"{TOP}/lab", "film", word], more={"LAB": str(fake)}), ended)
+        assert run([f"{TOP}/lab", "film", word], more={"LAB": str(fake)}) == ended
 
 
 @pytest.mark.parametrize("number", [signal.SIGINT, signal.SIGTERM])
@@ -368,8 +365,8 @@ def test_a_signal_ends_the_program_too(fake: Path, number: signal.Signals) -> No
         while not pid.exists() or not pid.read_text(encoding="utf-8").strip():
             time.sleep(0.01)
         command.send_signal(number)
-        wanted(command.communicate(timeout=10), (b"", b""))
-    wanted(command.returncode, -number)
+        assert command.communicate(timeout=10) == (b"", b"")
+    assert command.returncode == (-number)
     assert not Path("/proc", pid.read_text(encoding="utf-8").strip()).exists()
 
 
@@ -410,26 +407,23 @@ def test_registers_by_hand(browser: Browser, tmp_path: Path) -> None:
     ]
     for event, registers, instruction in rows:
         node = film.go(event)["nodes"][0]
-        wanted((event, [node["registers"][it] for it in ("Iptr", "W", "A", "B", "C", "O")]), (event, registers))
-        wanted((event, [it[2] for it in node["rows"] if it[3] == "here"]), (event, [instruction]))
+        assert (event, [node["registers"][it] for it in ("Iptr", "W", "A", "B", "C", "O")]) == (event, registers)
+        assert (event, [it[2] for it in node["rows"] if it[3] == "here"]) == (event, [instruction])
     rows_there = film.go(40)["nodes"][0]["rows"]
     begin = [it[3] for it in rows_there].index("here")
-    wanted(
-        rows_there[begin : begin + 5],
-        [
-            ["80000048", "b4", "ajw 4", "here"],
-            ["80000049", "24 f2", "mint", ""],
-            ["8000004b", "22 4a", "ldc 42", ""],
-            ["8000004d", "fe", "outbyte", ""],
-            ["8000004e", "21 f1", "opr 17", ""],
-        ],
-    )
+    assert rows_there[begin : begin + 5] == [
+        ["80000048", "b4", "ajw 4", "here"],
+        ["80000049", "24 f2", "mint", ""],
+        ["8000004b", "22 4a", "ldc 42", ""],
+        ["8000004d", "fe", "outbyte", ""],
+        ["8000004e", "21 f1", "opr 17", ""],
+    ]
     looks = {38: "booting", 39: "running", 46: "idle", 48: "idle", 49: "running", 50: "halted 2 11", 54: "halted 2 11"}
     for event, look in looks.items():
-        wanted((event, film.go(event)["nodes"][0]["look"]), (event, look + " overruns 0 0 0 0"))
+        assert (event, film.go(event)["nodes"][0]["look"]) == (event, look + " overruns 0 0 0 0")
     # a connection changes a word and leaves it without ready, message 03 changes it again, and message 04 a third time
     for event, words in {2: "-", 3: "0:187 7:180", 4: "0:2c7 7:2c0", 54: "0:300 7:300"}.items():
-        wanted((event, film.go(event)["words"]), (event, words))
+        assert (event, film.go(event)["words"]) == (event, words)
     # the first byte of the boot comes, is taken, and acknowledged; then 2a waits at the link, leaves, and is acknowledged
     links = {
         5: [],
@@ -443,7 +437,7 @@ def test_registers_by_hand(browser: Browser, tmp_path: Path) -> None:
         50: [],
     }
     for event, lines in links.items():
-        wanted((event, film.go(event)["nodes"][0]["lines"].get("links", [])), (event, lines))
+        assert (event, film.go(event)["nodes"][0]["lines"].get("links", [])) == (event, lines)
     # memory is 0 behind the code, until outbyte puts A into the word at W
     for event, first, word in (
         (40, "80000050", "00000000"),
@@ -451,9 +445,9 @@ def test_registers_by_hand(browser: Browser, tmp_path: Path) -> None:
         (46, "80000060", "0000002a"),
     ):
         words = film.go(event)["nodes"][0]["lines"]["workspace"]
-        wanted(
-            (event, words),
-            (event, [f"{first}  {word}"] + [f"{int(first, 16) + at:08x}  00000000" for at in range(4, 32, 4)]),
+        assert (event, words) == (
+            event,
+            [f"{first}  {word}"] + [f"{int(first, 16) + at:08x}  00000000" for at in range(4, 32, 4)],
         )
     queues = [
         (5, "sending", "08"),
@@ -467,13 +461,13 @@ def test_registers_by_hand(browser: Browser, tmp_path: Path) -> None:
         (9, "written", "08 b4"),
     ]
     for event, name, it in queues:
-        wanted((event, name, film.go(event)["queues"][f"{name}-0"]["bytes"]), (event, name, it.split()))
+        assert (event, name, film.go(event)["queues"][f"{name}-0"]["bytes"]) == (event, name, it.split())
     halted = film.go(54)["nodes"][0]
     why = lab(["why", f"{tmp_path}/record.replay"])[1]
     told = re.search(r"It was at (\w+) in `(.*)`, with A (\w+), B (\w+), C (\w+), W (\w+) and Error 0", why).groups()
-    wanted([halted["registers"][it] for it in ("Iptr", "A", "B", "C", "W")], [told[0], *told[2:]])
-    wanted([it[2] for it in halted["rows"] if it[3] == "here"], [told[1]])
-    wanted(halted["faults"], ["there is no operation of this code"])
+    assert [halted["registers"][it] for it in ("Iptr", "A", "B", "C", "W")] == [told[0], *told[2:]]
+    assert [it[2] for it in halted["rows"] if it[3] == "here"] == [told[1]]
+    assert halted["faults"] == ["there is no operation of this code"]
     film.fits()
     film.pictures("worked", 47)
     film.pictures("halted", 50)
@@ -483,37 +477,40 @@ def test_registers_by_hand(browser: Browser, tmp_path: Path) -> None:
 def test_keys_and_jumps(browser: Browser, tmp_path: Path) -> None:
     """Every key, the buttons, the slider, a click on the time line, and the address."""
     film = Film(browser, tmp_path, worked_record())
-    wanted(film.shown()["counts"], ["1", "1", "22"])
-    wanted(film.shown()["text"], "The domain as it was opened.")
-    wanted(
-        [
-            film.press("ArrowRight"),
-            film.press("ArrowRight"),
-            film.press("ArrowLeft"),
-            film.press("End"),
-            film.press("ArrowRight"),
-        ],
-        [1, 2, 1, 54, 54],
-    )
-    wanted([film.press("Home"), film.press("ArrowLeft"), film.press("PageDown"), film.press("PageUp")], [0, 0, 54, 0])
+    assert film.shown()["counts"] == ["1", "1", "22"]
+    assert film.shown()["text"] == "The domain as it was opened."
+    assert [
+        film.press("ArrowRight"),
+        film.press("ArrowRight"),
+        film.press("ArrowLeft"),
+        film.press("End"),
+        film.press("ArrowRight"),
+    ] == [1, 2, 1, 54, 54]
+    assert [film.press("Home"), film.press("ArrowLeft"), film.press("PageDown"), film.press("PageUp")] == [0, 0, 54, 0]
     # the first fault, and no other; the byte that was lost; then back
-    wanted(
-        [film.press("f"), film.press("f"), film.press("l"), film.press("l"), film.press("F"), film.press("L")],
-        [50, 50, 54, 54, 50, 50],
-    )
+    assert [film.press("f"), film.press("f"), film.press("l"), film.press("l"), film.press("F"), film.press("L")] == [
+        50,
+        50,
+        54,
+        54,
+        50,
+        50,
+    ]
     film.press("Home")
     # each byte of the boot is written at one event and moved at the next; 2a comes at 47 and is read at 51; 05 is written and lost
     jumps = [event for at in range(5, 41, 4) for event in (at, at + 1)] + [47, 51, 53, 54]
-    wanted([film.press("b") for _ in jumps], jumps)
-    wanted(film.press("b"), jumps[-1])
-    wanted([film.press("B") for _ in jumps[1:]], jumps[-2::-1])
+    assert [film.press("b") for _ in jumps] == jumps
+    assert film.press("b") == jumps[-1]
+    assert [film.press("B") for _ in jumps[1:]] == jumps[-2::-1]
     film.go(40)
-    wanted(
-        [film.press("+ArrowRight"), film.press("+ArrowRight"), film.press("+ArrowLeft"), film.press("+ArrowLeft")],
-        [46, 47, 46, 40],
-    )
+    assert [
+        film.press("+ArrowRight"),
+        film.press("+ArrowRight"),
+        film.press("+ArrowLeft"),
+        film.press("+ArrowLeft"),
+    ] == [46, 47, 46, 40]
     film.go(43)
-    wanted(film.press("+ArrowLeft"), 40)
+    assert film.press("+ArrowLeft") == 40
     texts = {
         43: "line 48, the farm: Step 3 of 6, step 0 = ran",
         50: "line 52, the farm: step 0 = fault 2 11",
@@ -522,21 +519,26 @@ def test_keys_and_jumps(browser: Browser, tmp_path: Path) -> None:
         54: "line 56, the farm: move 7 = lost \u2014 the byte 05 at port 7, host 0, which drives no output",
     }
     for event, text in texts.items():
-        wanted(film.go(event)["text"], text)
-    wanted([film.go(it)["kind"] for it in (47, 50, 54)], ["", "fault", "loss"])
+        assert film.go(event)["text"] == text
+    assert [film.go(it)["kind"] for it in (47, 50, 54)] == ["", "fault", "loss"]
     for key, event in (("Home", 0), ("f", 50), ("ArrowLeft", 49), ("End", 54)):
         browser.look(f"document.querySelector('button[data-key={key}]').click()")
-        wanted(film.shown()["event"], event)
-    wanted(
-        browser.look("[...document.querySelectorAll('button[data-key]:disabled')].map((it) => it.dataset.key)"),
-        ["ArrowRight", "End", "Shift+ArrowRight", "f", "L", "l", "b"],
-    )
+        assert film.shown()["event"] == event
+    assert browser.look("[...document.querySelectorAll('button[data-key]:disabled')].map((it) => it.dataset.key)") == [
+        "ArrowRight",
+        "End",
+        "Shift+ArrowRight",
+        "f",
+        "L",
+        "l",
+        "b",
+    ]
     browser.look(
         "(() => { const it = document.getElementById('slider'); it.value = 7; it.dispatchEvent(new Event('input')); })()"
     )
-    wanted(film.shown()["event"], 7)
+    assert film.shown()["event"] == 7
     time.sleep(1)
-    wanted(browser.look("location.hash"), "#event=7")
+    assert browser.look("location.hash") == "#event=7"
     film.press("Home")
     left, top = browser.look(
         "(() => { const it = document.querySelector('#lanes svg').getBoundingClientRect(); return [it.x, it.y]; })()"
@@ -546,11 +548,11 @@ def test_keys_and_jumps(browser: Browser, tmp_path: Path) -> None:
         browser.ask(
             "Input.dispatchMouseEvent", type=kind, x=left + 130 + 2.5 * 28, y=top + 50, button="left", clickCount=1
         )
-    wanted(film.shown()["event"], 3)
+    assert film.shown()["event"] == 3
     browser.open(film.path + "#event=47")
-    wanted(film.shown()["event"], 47)
+    assert film.shown()["event"] == 47
     browser.open(film.path + "#event=last")
-    wanted(film.shown()["event"], 54)
+    assert film.shown()["event"] == 54
 
 
 @pytest.mark.browser
@@ -577,14 +579,11 @@ def test_losses_by_overrun(browser: Browser, tmp_path: Path) -> None:
         "move 7 @farm = passed",
     ]
     film = Film(browser, tmp_path, head + "".join(f"0 {it}\n" for it in events))
-    wanted(film.shown()["counts"][:2], ["0", "1"])
-    wanted(film.press("l"), 16)
+    assert film.shown()["counts"][:2] == ["0", "1"]
+    assert film.press("l") == 16
     shown = film.shown()
-    wanted([it["look"] for it in shown["nodes"]], ["booting overruns 1 0 0 0", "booting overruns 0 0 0 0"])
-    wanted(
-        shown["text"].endswith("which drives port 0, node 0 link 0 and port 2, node 1 link 0; it was dropped there"),
-        True,
-    )
+    assert [it["look"] for it in shown["nodes"]] == ["booting overruns 1 0 0 0", "booting overruns 0 0 0 0"]
+    assert shown["text"].endswith("which drives port 0, node 0 link 0 and port 2, node 1 link 0; it was dropped there")
     film.fits()
     film.pictures("dropped", 16)
 
@@ -595,20 +594,20 @@ def test_windows(browser: Browser, tmp_path: Path) -> None:
     whole = Film(browser, tmp_path, worked_record())
     looks = [whole.go(it) for it in range(43, 48)]
     film = Film(browser, tmp_path, worked_record(), "--from", "43", "--count", "4")
-    wanted(film.shown()["span"], "events 43 to 47. The record goes on: --from and --count show other events.")
+    assert film.shown()["span"] == "events 43 to 47. The record goes on: --from and --count show other events."
     for event, look in zip(range(43, 48), looks):
         shown = film.go(event)
         for part in ("event", "words", "nodes"):
             if part == "nodes":
-                wanted([{**it, "rows": []} for it in shown[part]], [{**it, "rows": []} for it in look[part]])
+                assert [{**it, "rows": []} for it in shown[part]] == [{**it, "rows": []} for it in look[part]]
             else:
-                wanted(shown[part], look[part])
-    wanted(film.go(44)["text"], "line 48, the farm: Step 4 of 6, step 0 = ran")
-    wanted([film.press("Home"), film.press("End"), film.press("f")], [43, 47, 47])
+                assert shown[part] == look[part]
+    assert film.go(44)["text"] == "line 48, the farm: Step 4 of 6, step 0 = ran"
+    assert [film.press("Home"), film.press("End"), film.press("f")] == [43, 47, 47]
     empty = Film(browser, tmp_path, worked_record(), "--from", "1000")
-    wanted((empty.shown()["event"], empty.shown()["span"]), (54, "events 54 to 54, the end of the record."))
+    assert (empty.shown()["event"], empty.shown()["span"]) == (54, "events 54 to 54, the end of the record.")
     cut = Film(browser, tmp_path, worked_record() + "0 write 0 0")
-    wanted(cut.shown()["span"], "events 0 to 54, the end of the record. Its last line is cut, and was left out.")
+    assert cut.shown()["span"] == "events 0 to 54, the end of the record. Its last line is cut, and was left out."
     # nfix 0 and j -2, two bytes that go round for ever
     boots = [f"0 {it} @0 = nothing" for it in ("config 01", "config 00", "config 07", "config 03")]
     for byte in bytes.fromhex("03b4600e"):
@@ -619,15 +618,19 @@ def test_windows(browser: Browser, tmp_path: Path) -> None:
             "0 move 0 @farm = passed",
         ]
     loop = Film(browser, tmp_path, HEAD + "".join(f"{it}\n" for it in boots) + "5000 times 0 step 0 @farm = 5000 ran\n")
-    wanted(loop.go(5020)["event"], 5020)
-    wanted(browser.look("last"), 20 + 1001)
-    wanted(loop.go(4520)["text"], "line 28, the farm: Steps 501 to 4,500, together, of 5,000, step 0 = ran")
-    wanted([loop.press("ArrowLeft"), loop.press("ArrowRight"), loop.press("ArrowRight")], [520, 4520, 4521])
+    assert loop.go(5020)["event"] == 5020
+    assert browser.look("last") == 20 + 1001
+    assert loop.go(4520)["text"] == "line 28, the farm: Steps 501 to 4,500, together, of 5,000, step 0 = ran"
+    assert [loop.press("ArrowLeft"), loop.press("ArrowRight"), loop.press("ArrowRight")] == [520, 4520, 4521]
     # ajw 4 is the first Step; behind an even number of Steps the prefix has been done
-    wanted(
-        [loop.go(it)["nodes"][0]["registers"]["Iptr"] for it in (21, 22, 23, 520, 4520, 5020)],
-        ["80000049", "8000004a", "80000049", "8000004a", "8000004a", "8000004a"],
-    )
+    assert [loop.go(it)["nodes"][0]["registers"]["Iptr"] for it in (21, 22, 23, 520, 4520, 5020)] == [
+        "80000049",
+        "8000004a",
+        "80000049",
+        "8000004a",
+        "8000004a",
+        "8000004a",
+    ]
 
 
 def test_refusals(tmp_path: Path) -> None:
@@ -658,12 +661,12 @@ def test_refusals(tmp_path: Path) -> None:
         if film[0] != told[0] or film[1] or film[0] not in (3, 4) or (not is_line and film[2] != told[2]):
             raise AssertionError(f"{text}: {film} beside {told}")
         if is_line:
-            wanted(film[2].split(":")[0], told[2].split(":")[0])
-    wanted(lab(["film", path])[2].split(":")[0], f"line {first + 40}")
+            assert film[2].split(":")[0] == told[2].split(":")[0]
+    assert lab(["film", path])[2].split(":")[0] == f"line {first + 40}"
     nobody = f"{tmp_path}/nobody.replay"
-    wanted(lab(["film", nobody]), (6, "", f"{nobody}: it can't be read\n"))
+    assert lab(["film", nobody]) == (6, "", f"{nobody}: it can't be read\n")
     for words in (["film"], ["film", path, path], ["film", path, "--from", "x"], ["film", path, "--count", "-1"]):
-        wanted(lab(words)[:2], (2, ""))
+        assert lab(words)[:2] == (2, "")
 
 
 def recorded(text: bytes, folder: Path) -> list[tuple[str, str]]:
@@ -674,23 +677,23 @@ def recorded(text: bytes, folder: Path) -> list[tuple[str, str]]:
             live.say(line.encode("utf-8", "surrogateescape") + b"\n")
             if line and not line.startswith("#"):
                 live.hear()
-        wanted(live.end()[0], 0)
+        assert live.end()[0] == 0
     return [(it.stem, it.read_text(encoding="utf-8")) for it in sorted(folder.glob("*.replay"))]
 
 
 # Each example with the path of its text.
-EXAMPLES = {name: path for name, path, _ in scripts()} | {"the stored run": f"{STORED}/stdin"}
+PATHS = {name: f"{EXAMPLES}/{name}.farm" for name in (*PLAIN_NAMES, *HELPED_NAMES)} | {STORED_RUN: f"{STORED}/stdin"}
 
 
 @pytest.mark.browser
-@pytest.mark.parametrize("name", EXAMPLES)
+@pytest.mark.parametrize("name", PATHS)
 def test_examples_as_replayed(browser: Browser, tmp_path: Path, name: str) -> None:
     """The record of each domain of an example: the first frame, the last one and three others, and its code beside peeks."""
-    text = contents(EXAMPLES[name])
+    text = contents(PATHS[name])
     if "/" in name:
         # its loads are spelled out
-        status, out, errors = lab(["expand", EXAMPLES[name]])
-        wanted((status, errors), (0, ""))
+        status, out, errors = lab(["expand", PATHS[name]])
+        assert (status, errors) == (0, "")
         text = out.encode("utf-8", "surrogateescape")
     records = tmp_path / "records"
     records.mkdir()
@@ -699,8 +702,8 @@ def test_examples_as_replayed(browser: Browser, tmp_path: Path, name: str) -> No
     for user, record in found:
         film = Film(browser, tmp_path, record)
         events = events_in(record)
-        wanted(film.shown()["span"], f"events 0 to {events:,}, the end of the record.")
-        wanted(film.press("End"), events)
+        assert film.shown()["span"] == f"events 0 to {events:,}, the end of the record."
+        assert film.press("End") == events
         for event in [0, *sorted(chance.randint(0, events) for _ in range(3)), events]:
             shown = is_as_replayed(film, film.go(event)["event"])
         is_as_peeked(film, events, shown)
@@ -730,7 +733,7 @@ def test_many_events(browser: Browser, tmp_path: Path) -> None:
     records.mkdir()
     whole = long_record(records)
     film = Film(browser, tmp_path, beginning(whole, MANY))
-    wanted(film.press("End"), MANY)
+    assert film.press("End") == MANY
     is_as_replayed(film, MANY)
     opened = [film.opened, *(browser.open(film.path) for _ in range(2))]
     jump = browser.look(
@@ -744,7 +747,7 @@ def test_many_events(browser: Browser, tmp_path: Path) -> None:
     film.fits()
     film.pictures("many", MANY // 2)
     goes_on = Film(browser, tmp_path, whole)
-    wanted("The record goes on" in goes_on.shown()["span"], events_in(whole) > browser.look("recordedAt(last)"))
+    assert ("The record goes on" in goes_on.shown()["span"]) == (events_in(whole) > browser.look("recordedAt(last)"))
 
 
 # ajw 8, ldc 2, ldlp -8 and startp, and then two loops of nfix 0 and j -2: the first process does the one at 8000004d, and starts
@@ -778,7 +781,7 @@ def test_processes_by_hand(browser: Browser, tmp_path: Path) -> None:
     one, other = "W 80000074 at 8000004d", "W 80000054 at 8000004f"
     rows = {44: [], 48: [], 49: [other], 44 + 1024: [other], 44 + 1025: [other, one], 44 + 1026: [one]}
     for event, lines in rows.items():
-        wanted((event, film.go(event)["nodes"][0]["lines"].get("waiting", [])), (event, lines))
+        assert (event, film.go(event)["nodes"][0]["lines"].get("waiting", [])) == (event, lines)
     film.fits()
     film.pictures("processes", 44 + 1025)
 
@@ -795,9 +798,9 @@ def test_zeros_by_hand(browser: Browser, tmp_path: Path) -> None:
         booted(INTO_ZEROS, [f"{3 + zeros} times 0 step 0 @farm = {3 + zeros} ran", "0 step 0 @farm = fault 1"]),
     )
     event = film.press("End")
-    wanted(event, 20 + 3 + zeros + 1)
+    assert event == 20 + 3 + zeros + 1
     outside = film.shown()["nodes"][0]["lines"]["outside"]
-    wanted(outside[2:5], ["  80000048  ajw 4", "  80000049  ldc 7", "> 8000004a  j 1"])
+    assert outside[2:5] == ["  80000048  ajw 4", "  80000049  ldc 7", "> 8000004a  j 1"]
     film.fits()
     film.pictures("zeros", event)
 
@@ -814,21 +817,18 @@ def test_labels_and_lines(browser: Browser, tmp_path: Path) -> None:
     )
     # after the boot, which is 4 events and 4 for each byte, and one Step
     rows = [it[2:] for it in film.go(4 + 4 * (1 + len(code) // 2) + 1)["nodes"][0]["rows"] if it[4]]
-    wanted(
-        rows,
-        [
-            ["ajw 4", "", "ajw 4      -- a </script> b", ""],
-            ["ldc 7", "loop", "loop:   ldc 7", "here"],
-            ["j -3", "loop+1", "j loop", ""],
-        ],
-    )
+    assert rows == [
+        ["ajw 4", "", "ajw 4      -- a </script> b", ""],
+        ["ldc 7", "loop", "loop:   ldc 7", "here"],
+        ["j -3", "loop+1", "j loop", ""],
+    ]
     film.fits()
     for words in (["--program", "x", f"{tmp_path}/loop.s"], ["--program", "0"]):
-        wanted(lab(["film", film.path, *words])[:2], (2, ""))
+        assert lab(["film", film.path, *words])[:2] == (2, "")
     with open(f"{tmp_path}/wrong.s", "w", encoding="utf-8") as it:
         it.write("hello\n")
     status, page, errors = lab(["film", f"{tmp_path}/record.replay", "--program", "0", f"{tmp_path}/wrong.s"])
-    wanted((status, page, errors.startswith(f"{tmp_path}/wrong.s: line 1, column 1: ")), (4, "", True))
+    assert (status, page, errors.startswith(f"{tmp_path}/wrong.s: line 1, column 1: ")) == (4, "", True)
 
 
 # A program of occam that halts in the instance of line 9, and its code by the table of docs/OCCAM.md: ajw 3 at 80000048, sethalterr
@@ -857,39 +857,35 @@ def test_lines_of_occam(browser: Browser, tmp_path: Path) -> None:
     film = Film(browser, tmp_path, record, "--program", "0", f"{tmp_path}/check.occ")
     first = 4 + 4 * (1 + len(OCCAM_CODE) // 2)
     node = film.go(first)["nodes"][0]
-    wanted(node["occam"], [])
+    assert node["occam"] == []
     begin = [it[-1] for it in node["rows"]].index("here")
     assigned, compared = ["line 8", "sum := 7  -- a </script> b"], ["line 3 (9)", "IF"]
-    wanted(
-        [it[2:5] for it in node["rows"][begin : begin + 8]],
-        [
-            ["ajw 3", "", ""],
-            ["sethalterr", "", ""],
-            ["ldc 7", *assigned],
-            ["stl 1", *assigned],
-            ["ldl 1", *compared],
-            ["ldc 9", *compared],
-            ["gt", *compared],
-            ["cj 3", *compared],
-        ],
-    )
+    assert [it[2:5] for it in node["rows"][begin : begin + 8]] == [
+        ["ajw 3", "", ""],
+        ["sethalterr", "", ""],
+        ["ldc 7", *assigned],
+        ["stl 1", *assigned],
+        ["ldl 1", *compared],
+        ["ldc 9", *compared],
+        ["gt", *compared],
+        ["cj 3", *compared],
+    ]
     for steps, (number, text) in ((3, assigned), (4, assigned), (5, compared), (9, compared)):
-        wanted((steps, film.go(first + steps)["nodes"][0]["occam"]), (steps, [f"{number}: {text}"]))
+        assert (steps, film.go(first + steps)["nodes"][0]["occam"]) == (steps, [f"{number}: {text}"])
     # cj 3 leads to 80000054, whose second byte ends in the fault
     halted = film.press("End")
     node = film.shown()["nodes"][0]
-    wanted((halted, node["occam"]), (first + 11, ["line 3 (9): IF"]))
-    wanted([it[2:] for it in node["rows"] if it[-1] == "here"], [["seterr", *compared, "here"]])
+    assert (halted, node["occam"]) == (first + 11, ["line 3 (9): IF"])
+    assert [it[2:] for it in node["rows"] if it[-1] == "here"] == [["seterr", *compared, "here"]]
     sources = json_of(film.path)["sources"]
-    wanted(
-        [(it["address"], it["length"], it["occam_line"], it.get("instance"), it["text"].strip()) for it in sources],
-        [
-            (0x8000004B, 2, 8, None, assigned[1]),
-            (0x8000004D, 4, 3, 9, "IF"),
-            (0x80000051, 2, 5, 9, "STOP"),
-            (0x80000053, 3, 3, 9, "IF"),
-        ],
-    )
+    assert [
+        (it["address"], it["length"], it["occam_line"], it.get("instance"), it["text"].strip()) for it in sources
+    ] == [
+        (0x8000004B, 2, 8, None, assigned[1]),
+        (0x8000004D, 4, 3, 9, "IF"),
+        (0x80000051, 2, 5, 9, "STOP"),
+        (0x80000053, 3, 3, 9, "IF"),
+    ]
     film.fits()
 
 
@@ -899,9 +895,9 @@ def test_names_whole(browser: Browser, tmp_path: Path) -> None:
     name = "bea-mullerstein-of-hall-c"
     film = Film(browser, tmp_path, worked_record().replace('"ann"', f'"{name}"'))
     texts = browser.look("[...document.querySelectorAll('#lanes text')].map((it) => it.textContent)")
-    wanted(f"host 0 {name}" in texts, True)
+    assert f"host 0 {name}" in texts
     for width, height in SIZES:
         browser.size(width, height)
         tops = browser.look("['hosts', 'nodes'].map((it) => document.getElementById(it).getBoundingClientRect().top)")
-        wanted(tops[0] <= tops[1], True)
+        assert tops[0] <= tops[1]
     film.fits()

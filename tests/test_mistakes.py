@@ -4,22 +4,18 @@ A line of a script is wrong to the table exactly if the program `farm` refuses a
 from __future__ import annotations
 
 import os
-import subprocess
-import sys
 from collections.abc import Iterator
 
 import pytest
 from hypothesis import given, settings
 from hypothesis import strategies as st
+from support.trials import LAB, TOP, program
+from support.trials import run as ran
 
-TOP = os.path.dirname(os.path.dirname(os.path.abspath(__file__)))
-sys.path.extend([TOP, os.path.join(TOP, "tools")])
-
-from nadzsumek.mistakes.lines import MOST_TOLD, told_lines, wrong_line  # noqa: E402
-from nadzsumek.mistakes.nearness import nearest  # noqa: E402
-from nadzsumek.mistakes.plans import MARKLESS, reason, told_plan, users_of  # noqa: E402
-from nadzsumek.mistakes.refusals import line_with_help, with_help  # noqa: E402
-from tree import built  # noqa: E402
+from nadzsumek.mistakes.lines import MOST_TOLD, told_lines, wrong_line
+from nadzsumek.mistakes.nearness import nearest
+from nadzsumek.mistakes.plans import MARKLESS, reason, told_plan, users_of
+from nadzsumek.mistakes.refusals import line_with_help, with_help
 
 DATA = os.path.join(TOP, "crates", "lab", "data")
 NAMES = ["ann", "bob"]
@@ -36,10 +32,9 @@ PLAN = contents("examples", "two-users.farm").partition("---\n")[0].encode()
 
 def run(name: str, words: list[str], text: bytes) -> tuple[int, bytes, bytes]:
     """The status of a command, what it prints, and what it says on standard error."""
-    call = [os.path.join(TOP, name)] if name == "lab" else [built(name)]
-    variables = {**os.environ, "LAB": built("lab")} if name == "lab" else None
-    done = subprocess.run(call + words, input=text, capture_output=True, check=False, timeout=60, env=variables)
-    return done.returncode, done.stdout, done.stderr
+    status, out, errors = ran([LAB if name == "lab" else program(name), *words], text)
+    assert status is not None
+    return status, out, errors
 
 
 def rows_of(name: str) -> dict[str, str]:

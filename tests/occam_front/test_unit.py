@@ -99,10 +99,7 @@ def test_links_procedures_and_instances():
         {"name": "out.int", "line": 0},
         {"name": "add", "line": 6},
     ]
-    assert found["instances"] == [
-        {"line": 11, "column": 5, "procedure": 2},
-        {"line": 12, "column": 3, "procedure": 1},
-    ]
+    assert found["instances"] == [{"line": 11, "column": 5, "procedure": 2}, {"line": 12, "column": 3, "procedure": 1}]
 
 
 def test_a_call_of_a_function_is_an_instance_with_a_line():

@@ -1,0 +1,1 @@
+"""Random programs of occam, what they mean, and mistakes in them: the judge of the compiler, which shares nothing with it."""

@@ -1,0 +1,180 @@
+"""What random occam programs are made of: sizes, names and signs, and parts of programs with what is known of them."""
+from dataclasses import dataclass
+
+from occam.values import BYTE, INT, MOST_NEGATIVE, MOST_POSITIVE
+
+WHOLE, SMALL = (MOST_NEGATIVE, MOST_POSITIVE), (-10_000, 10_000)
+# What each program sends last at its first output, as BYTE and as INT.
+LAST = {BYTE: 0xEE, INT: 0x1EE7C0DE}
+# How much comes at each link at most, and how much a program may send and cost.
+MOST_COMING, MOST_SAID, MOST_COST = 1_000, 1_500, 1_000_000
+# What the language allows and a compiler might not: it is in programs unless it is taken from here.
+FEATURES = {
+    "hiding",
+    "equal bools",
+    "odd continuation",
+    "blank at the end",
+    "arrays of INT",
+    "arrays of BYTE",
+    "arrays of BOOL",
+    "array messages",
+    "copies",
+    "SIZE",
+    "tables",
+    "strings",
+    "VAL",
+    "VAL of arrays",
+    "renamed variables",
+    "renamed elements",
+    "renamed arrays",
+    "renamed channels",
+    "PROC",
+    "PROC in PROC",
+    "written PROC",
+    "prelude",
+    "PAR",
+    "ALT",
+    "arrays of channels",
+}
+# How often each of these is met where it may be, if it is in a program at all.
+WEIGHTS = {
+    "arrays": 0.7,
+    "fill": 0.85,
+    "element": 0.45,
+    "copies": 0.15,
+    "SIZE": 0.05,
+    "VAL": 0.15,
+    "renamed": 0.2,
+    "PROC": 0.10,
+    "written PROC": 0.06,
+    "call": 0.4,
+    "prelude": 0.1,
+    "array messages": 0.25,
+    "over": 0.6,
+}
+# Which share of programs has what a weight is of.
+SHARE = 0.75
+# What it leaves open: it is in programs if it is put there.
+OPEN = {"INT of BOOL"}
+NAMES = (
+    "x",
+    "y",
+    "z",
+    "n",
+    "count",
+    "total",
+    "a.b",
+    "value",
+    "x1",
+    "x2",
+    "last.byte",
+    "Sum",
+    "hash",
+    "flag",
+    "is.even",
+    "left",
+    "right",
+    "mask",
+    "w",
+    "v.0",
+    "difference.of.words",
+    "K",
+    "seen",
+    "digit",
+    "carry",
+    "p",
+    "q",
+    "step",
+    "bits",
+    "a.name.with.dots",
+)
+EDGES = (
+    0,
+    1,
+    2,
+    3,
+    7,
+    8,
+    15,
+    16,
+    17,
+    255,
+    256,
+    257,
+    4095,
+    4096,
+    65535,
+    65536,
+    1 << 20,
+    1 << 28,
+    MOST_POSITIVE,
+    MOST_POSITIVE - 1,
+)
+SIGNS = {
+    "[",
+    "]",
+    "+",
+    "-",
+    "*",
+    "/",
+    "\\",
+    "/\\",
+    "\\/",
+    "><",
+    "<<",
+    ">>",
+    "=",
+    "<>",
+    "<",
+    ">",
+    "<=",
+    ">=",
+    ":=",
+    "?",
+    "!",
+    "&",
+    ",",
+    ":",
+    "(",
+    ")",
+}
+OPERATORS = ("+", "-", "*", "/", "\\", "REM", "PLUS", "MINUS", "TIMES", "/\\", "\\/", "><", "<<", ">>", "+", "-", "*")
+REMARKS = ("", " ", " a remark", " x := 1", " 'not a character", ' "', " ü, ≤", "-- :")
+UNARY = "\0"
+
+
+@dataclass
+class Part:
+    """An expression: its tokens, the span of its numbers, whether it is an operand, and whether it is constant."""
+
+    tokens: list
+    low: int = 0
+    high: int = 1
+    is_operand: bool = True
+    is_constant: bool = False
+
+
+@dataclass(eq=False)
+class Variable:
+    """A variable: its name and type, the span that its values keep to, and whether it may be changed."""
+
+    name: str
+    type: str
+    span: tuple = WHOLE
+    is_free: bool = True
+    # of an array: how many elements it has, or 0 if that isn't known where it is used; of an index: the array over which it goes
+    size: int | None = None
+    over: object = None
+    is_constant: bool = False
+
+
+@dataclass(eq=False)
+class Proc:
+    """A PROC: its name, its formals, each with its way, type and size, and what of the names around it its body uses, and may change."""
+
+    name: str
+    formals: list
+    used: set
+    type: str = "PROC"
+    is_free: bool = False
+    size: int | None = None
