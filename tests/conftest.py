@@ -26,10 +26,10 @@ def pytest_configure(config: pytest.Config) -> None:
     os.environ["LIVE_WORKERS"] = config.getoption("--workers")
 
 
-def pytest_terminal_summary(terminalreporter: TerminalReporter) -> None:
-    """Notes for ./test how many passed and how many failed."""
+def pytest_terminal_summary(terminalreporter: TerminalReporter, config: pytest.Config) -> None:
+    """Notes for ./test how many passed and how many failed, once and not in each process that runs tests for another."""
     path = os.environ.get("TESTS_COUNTED")
-    if path:
+    if path and not hasattr(config, "workerinput"):
         passed, *failed = (len(terminalreporter.getreports(it)) for it in ("passed", "failed", "error"))
         with open(path, "a", encoding="ascii") as file:
             file.write(f"{passed} {sum(failed)}\n")

@@ -468,7 +468,7 @@ def test_ssh_brings_a_terminal(place: Place) -> None:
             assert it.end()[1] == 0
         told = done([*sshd.call(ANN, f"key-{ANN}"), f"{place.prefix}/bin/connect", place.folder, ANN], "look 0\n")
         assert told == "look 0 idle overruns 0 0 0 0\n"
-        told = done([*sshd.call(BOB, f"key-{BOB}"), f"{place.prefix}/bin/connect", place.folder, ANN], "look 0\n", 1)
+        told = done([*sshd.call(BOB, f"key-{BOB}"), f"{place.prefix}/bin/connect", place.folder, ANN], "look 0\n", 3)
         assert f"may not speak as {ANN}" in told
         assert DENIED in done(sshd.call(BOB, f"key-{ANN}"), status=255)
 
@@ -605,7 +605,7 @@ def one_farm_is_kept(machine):
     assert machine.call(*by_user(BOB, folder, BOB), text=LOOK) == (0, BOOTING)
     for account, name in ((ANN, BOB), (BOB, ANN), (ANN, "operator")):
         status, told = machine.call(*by_user(account, folder, name), text=LOOK)
-        assert (account, name, status, "may not speak" in told) == (account, name, 1, True)
+        assert (account, name, status, "may not speak" in told) == (account, name, 3, True)
     rows = {
         f"{ANN}.sock": f"{group_of(ANN)} 660",
         f"{BOB}.sock": f"{group_of(BOB)} 660",

@@ -299,6 +299,10 @@ def test_records_are_waited_for() -> None:
             assert ann.hear() == ""
             next_one = threading.Thread(target=it.start)
             next_one.start()
+            # the next one removes what the first one left, and then waits
+            end = time.monotonic() + SECONDS
+            while os.path.exists(f"{it.folder}/ann.sock") and time.monotonic() < end:
+                time.sleep(0.02)
             time.sleep(1)
             assert (next_one.is_alive(), os.path.exists(f"{it.folder}/ann.sock")) == (True, False)
         next_one.join()
