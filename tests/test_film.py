@@ -672,7 +672,7 @@ def test_refusals(tmp_path: Path) -> None:
 def recorded(text: bytes, folder: Path) -> list[tuple[str, str]]:
     """The records of the domains of a text for `farm`, whose lines a `live` is given one after another."""
     plan, _, script = text.decode("utf-8", "surrogateescape").partition("---\n")
-    with Live(built("live"), plan, more=["--record", str(folder)]) as live:
+    with Live(program("live"), plan, more=["--record", str(folder)]) as live:
         for line in script.splitlines():
             live.say(line.encode("utf-8", "surrogateescape") + b"\n")
             if line and not line.startswith("#"):
@@ -714,7 +714,7 @@ def test_examples_as_replayed(browser: Browser, tmp_path: Path, name: str) -> No
 def long_record(folder: Path) -> str:
     """The record of two nodes that give bytes to one another, with some more than 100,000 events."""
     path = folder / "bob.replay"
-    with Live(built("live"), PINGS_PLAN, more=["--record", str(folder)]) as live:
+    with Live(program("live"), PINGS_PLAN, more=["--record", str(folder)]) as live:
         for line in PINGS:
             live.ask(f"bob {line}")
         until = time.monotonic() + 60
