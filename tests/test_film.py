@@ -689,12 +689,8 @@ def recorded(text: bytes, folder: Path) -> list[tuple[str, str]]:
 PATHS = {name: f"{EXAMPLES}/{name}.farm" for name in (*PLAIN_NAMES, *HELPED_NAMES)} | {STORED_RUN: f"{STORED}/stdin"}
 
 
-# The others take a second or two each.
-SHORT = ("two-users", "occam/deadlock", STORED_RUN)
-
-
 @pytest.mark.browser
-@pytest.mark.parametrize("name", [it if it in SHORT else pytest.param(it, marks=pytest.mark.long) for it in PATHS])
+@pytest.mark.parametrize("name", PATHS)
 def test_examples_as_replayed(browser: Browser, tmp_path: Path, name: str) -> None:
     """The record of each domain of an example: the first frame, the last one and three others, and its code beside peeks."""
     text = contents(PATHS[name])
