@@ -2,7 +2,7 @@
 
 _nadzsumek_options() {
   case $1 in
-    farm) echo '--workers --quantum -h --help --explain --version' ;;
+    farm) echo '--workers --quantum -h --help --explain --letters --version' ;;
     live) echo '--workers --quantum --record --resume --sync --room --record-room -h --help --version' ;;
     lab) echo '-h --help --version' ;;
     lab\ replay) echo '--steps -h --help' ;;

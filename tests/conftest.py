@@ -26,6 +26,13 @@ def pytest_configure(config: pytest.Config) -> None:
     os.environ["LIVE_WORKERS"] = config.getoption("--workers")
 
 
+def pytest_collection_modifyitems(items: list[pytest.Item]) -> None:
+    """What needs a browser is long."""
+    for item in items:
+        if item.get_closest_marker("browser"):
+            item.add_marker(pytest.mark.long)
+
+
 def pytest_terminal_summary(terminalreporter: TerminalReporter, config: pytest.Config) -> None:
     """Notes for ./test how many passed and how many failed, once and not in each process that runs tests for another."""
     path = os.environ.get("TESTS_COUNTED")

@@ -21,7 +21,7 @@ from typing import Any
 
 import pytest
 import tomllib
-from support.browser import Browser
+from support.browser import Browser, is_there
 from support.live_lines import PINGS, PINGS_PLAN, Live
 from support.trials import EXAMPLES, HELPED_NAMES, LAB, PLAIN_NAMES, STORED, STORED_RUN, TOP, contents, program, run
 
@@ -70,6 +70,8 @@ def lab(words: list[str], text: bytes = b"") -> tuple[int | None, str, str]:
 
 @pytest.fixture(name="browser", scope="module")
 def one_browser() -> Iterator[Browser]:
+    if not is_there():
+        pytest.skip("there is no chromium: apt-get install chromium")
     with Browser() as browser:
         yield browser
 
@@ -444,11 +446,8 @@ def test_registers_by_hand(browser: Browser, tmp_path: Path) -> None:
         (41, "80000060", "00000000"),
         (46, "80000060", "0000002a"),
     ):
-        words = film.go(event)["nodes"][0]["lines"]["workspace"]
-        assert (event, words) == (
-            event,
-            [f"{first}  {word}"] + [f"{int(first, 16) + at:08x}  00000000" for at in range(4, 32, 4)],
-        )
+        expected = [f"{first}  {word}"] + [f"{int(first, 16) + at:08x}  00000000" for at in range(4, 32, 4)]
+        assert film.go(event)["nodes"][0]["lines"]["workspace"] == expected, event
     queues = [
         (5, "sending", "08"),
         (8, "sending", ""),
@@ -464,7 +463,9 @@ def test_registers_by_hand(browser: Browser, tmp_path: Path) -> None:
         assert (event, name, film.go(event)["queues"][f"{name}-0"]["bytes"]) == (event, name, it.split())
     halted = film.go(54)["nodes"][0]
     why = lab(["why", f"{tmp_path}/record.replay"])[1]
-    told = re.search(r"It was at (\w+) in `(.*)`, with A (\w+), B (\w+), C (\w+), W (\w+) and Error 0", why).groups()
+    found = re.search(r"It was at (\w+) in `(.*)`, with A (\w+), B (\w+), C (\w+), W (\w+) and Error 0", why)
+    assert found
+    told = found.groups()
     assert [halted["registers"][it] for it in ("Iptr", "A", "B", "C", "W")] == [told[0], *told[2:]]
     assert [it[2] for it in halted["rows"] if it[3] == "here"] == [told[1]]
     assert halted["faults"] == ["there is no operation of this code"]
@@ -637,7 +638,10 @@ def test_refusals(tmp_path: Path) -> None:
     """What is no record is refused as `lab why` refuses it."""
     record = worked_record()
     first = HEAD.count("\n") + 1
-    put = lambda line: record.replace("---\n", f"---\n{line}\n")
+
+    def put(line: str) -> str:
+        return record.replace("---\n", f"---\n{line}\n")
+
     rows = [
         "x = 1\n",
         "version = 3\n---\n",
@@ -672,7 +676,7 @@ def test_refusals(tmp_path: Path) -> None:
 def recorded(text: bytes, folder: Path) -> list[tuple[str, str]]:
     """The records of the domains of a text for `farm`, whose lines a `live` is given one after another."""
     plan, _, script = text.decode("utf-8", "surrogateescape").partition("---\n")
-    with Live(program("live"), plan, more=["--record", str(folder)]) as live:
+    with Live(plan, more=["--record", str(folder)]) as live:
         for line in script.splitlines():
             live.say(line.encode("utf-8", "surrogateescape") + b"\n")
             if line and not line.startswith("#"):
@@ -714,15 +718,15 @@ def test_examples_as_replayed(browser: Browser, tmp_path: Path, name: str) -> No
 def long_record(folder: Path) -> str:
     """The record of two nodes that give bytes to one another, with some more than 100,000 events."""
     path = folder / "bob.replay"
-    with Live(program("live"), PINGS_PLAN, more=["--record", str(folder)]) as live:
+    with Live(PINGS_PLAN, more=["--record", str(folder)]) as live:
         for line in PINGS:
             live.ask(f"bob {line}")
         until = time.monotonic() + 60
-        while events_in(contents(path).decode().rpartition("\n")[0] + "\n") < MANY + 10:
+        while events_in(path.read_text(encoding="utf-8").rpartition("\n")[0] + "\n") < MANY + 10:
             assert time.monotonic() < until, "the nodes don't go on"
             live.ask("bob look 0")
         live.process.kill()
-    return contents(path).decode().rpartition("\n")[0] + "\n"
+    return path.read_text(encoding="utf-8").rpartition("\n")[0] + "\n"
 
 
 @pytest.mark.browser

@@ -7,31 +7,18 @@ import os
 import selectors
 import shutil
 import subprocess
-import sys
 import tempfile
 import time
 from typing import Any
 
 SECONDS = 30
-# Debian's package and its program
-PACKAGE = "chromium"
-INSTALL = ["apt-get", "install", "-y", "-q", "--no-install-recommends", PACKAGE]
+# The program of Debian's package chromium, which ./test installs.
+PROGRAM = "chromium"
 
 
-def chromium() -> str:
-    """The path of the program. It is installed if it isn't there and this is root on a machine with apt-get."""
-    found = shutil.which(PACKAGE)
-    if found is not None:
-        return found
-    if os.geteuid() != 0 or shutil.which("apt-get") is None:
-        sys.exit(f"there is no {PACKAGE} here: install Debian's package as root, by `{' '.join(INSTALL)}`")
-    print(f"there is no {PACKAGE} here: installing Debian's package", file=sys.stderr)
-    quiet = {**os.environ, "DEBIAN_FRONTEND": "noninteractive"}
-    for words in (["apt-get", "update", "-q"], INSTALL):
-        done = subprocess.run(words, env=quiet, stdout=subprocess.DEVNULL, stderr=subprocess.PIPE, check=False)
-        if done.returncode != 0:
-            sys.exit(f"`{' '.join(words)}` failed, so there is no {PACKAGE}: {done.stderr.decode()[-500:]}")
-    return shutil.which(PACKAGE) or sys.exit(f"Debian's package has no {PACKAGE}")
+def is_there() -> bool:
+    """Whether the browser is installed."""
+    return shutil.which(PROGRAM) is not None
 
 
 class PageFailed(Exception):
@@ -47,7 +34,7 @@ class Browser:
         self.told, tells = os.pipe()
         # The browser takes commands from its third file and writes to its fourth.
         words = [
-            chromium(),
+            PROGRAM,
             "--headless=new",
             "--no-sandbox",
             "--disable-gpu",
