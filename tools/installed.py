@@ -23,7 +23,7 @@ SENTENCES = (
     (re.compile(r" ?All commands are given at the top of the repository\."), ""),
     (re.compile(r"All commands are given at the top of the repository, and each output"), "Each output"),
     (re.compile(r"^With the \[toolchain\][^.]*a fresh clone answers[^.]*\. "), ""),
-    (re.compile(r"^Before the proof a command runs a build that isn't proved.*$"), ""),
+    (re.compile(r" ?Before the proof a command runs a build that isn't proved.*$"), ""),
 )
 COMMAND = re.compile(r"(?<![\w/.])\./(?=(?:farm|live|lab|serve|connect|class)\b(?![/.]))")
 EXAMPLE = re.compile(r"(?<![\w/.-])examples/(?:[\w./-]*\w)?")

@@ -25,10 +25,10 @@ CLONE_NEWNS, CLONE_NEWPID, CLONE_NEWNET = 0x20000, 0x20000000, 0x40000000
 WANTED = ("dpkg", "unshare", "chroot", "mount")
 # What no page of an installation says: how a command is called at the top of a clone, and what is built there.
 UNTRUE = re.compile(
-    r"(?<![\w/])\./(?:farm|live|lab|serve|connect|class)\b|top of the repository|proves and builds the program before"
+    r"(?<![\w/])\./(?:farm|live|lab|serve|connect|class)\b|top of the repository|proves and builds the program before|Before the proof a command"
 )
 # Where the package manager and the system keep what they know and have done.
-KEPT = ("var/lib/dpkg", "var/log", "var/cache", "var/backups", "run", "tmp", "dev", "proc", "home")
+KEPT = ("var/lib/dpkg", "var/lib/apt", "var/log", "var/cache", "var/backups", "run", "tmp", "dev", "proc", "home")
 
 
 def done(call: Sequence[str], text: str = "", env: dict[str, str] | None = None) -> str:
