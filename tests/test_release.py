@@ -3,57 +3,25 @@ package is installed into a machine's root in which there is no toolchain, that 
 class with two terminals, asks why a node waits and makes a film, that the archive does it where it is unpacked, and that nothing is
 left when the package is removed but what that account has made.
 
-The root is this machine's own below a layer (overlayfs) at /mnt, in a mount namespace of a child of this process: no other process
-sees it, what is written there goes to memory, and all is gone when the child ends. Nothing of the machine but its files is in it, and
-none of its devices but those that programs always have. That needs root, the right to mount, and dpkg; where one isn't there, the
-tests in it are left out."""
+The root is this machine's own below a layer (support/roots.py). That needs root, the right to mount, and dpkg; where one isn't there,
+the tests in it are left out."""
 
-import ctypes
 import glob
 import os
 import re
 import shutil
-import stat
 import subprocess
-import sys
-import traceback
-from collections.abc import Callable
 
 import pytest
+from support.roots import KEPT, LAYER, MOST_SECONDS, Root, done, in_a_root
 from support.screens import CONTROL_D, Screen
 from support.trials import TOP, contents, program, text_of
 
 PROGRAMS = ("farm", "live", "lab")
 ACCOUNT = "nadz-release"
-# What the account of the trials has in its environment: no folder of a toolchain is among these.
-PATH = "/usr/bin:/bin"
-# Where the package manager and the system keep what they know and have done.
-KEPT = ("var/lib/dpkg", "var/log", "var/cache", "var/backups", "run", "tmp", "dev", "proc", f"home/{ACCOUNT}")
-MOST_SECONDS = 600
-# Where the layer is, for this process alone, and the devices that are in it.
-LAYER = "/mnt"
-DEVICES = {"null": (1, 3), "zero": (1, 5), "random": (1, 8), "urandom": (1, 9), "tty": (5, 0)}
-CLONE_NEWNS = 0x20000
 
 
-def done(call, text="", **more):
-    """What a call prints on both streams; it must end with status 0."""
-    it = subprocess.run(
-        call,
-        input=text,
-        stdout=subprocess.PIPE,
-        stderr=subprocess.STDOUT,
-        encoding="utf-8",
-        errors="replace",
-        timeout=MOST_SECONDS,
-        check=False,
-        **more,
-    )
-    assert it.returncode == 0, f"{' '.join(call)}: status {it.returncode}, {it.stdout}"
-    return it.stdout
-
-
-def make(out, **env):
+def make(out: str, **env: str) -> str:
     """Makes the packages: a release if this may be one, else a draft. What is shown of them, without their paths."""
     call = [f"{TOP}/tools/release", out]
     given = {**os.environ, **env}
@@ -84,101 +52,22 @@ def test_packages_are_reproducible(packages: tuple[str, str], folder: str) -> No
         assert contents(f"{folder}/second/{name}") == contents(f"{first}/{name}"), name
 
 
-def why_no_root():
-    """Why there can be no root of its own here, if that is so."""
-    if os.getuid() != 0:
-        return "this isn't root"
-    lacking = [it for it in ("dpkg", "unshare", "chroot", "useradd", "setpriv", "mount") if not shutil.which(it)]
-    if lacking:
-        return f"there is no {', '.join(lacking)}"
-    script = (
-        f"cd {LAYER} && mount -t tmpfs tmpfs {LAYER} && cd {LAYER} && mkdir u w m && "
-        "mount -t overlay overlay -o lowerdir=/,upperdir=u,workdir=w m"
-    )
-    tried = subprocess.run(
-        ["unshare", "--mount", "--propagation", "private", "sh", "-c", script], capture_output=True, check=False
-    )
-    return None if tried.returncode == 0 else "there is no right to mount"
+class Layer(Root):
+    """This machine's root below a layer (overlayfs), without a toolchain."""
 
+    upper = f"{LAYER}/upper"
 
-class Root:
-    """This machine's root below a layer, without a toolchain."""
-
-    upper, path = f"{LAYER}/upper", f"{LAYER}/root"
-
-    def __init__(self):
-        # no folder that is removed at the end has a mount in it
-        done(["mount", "-t", "tmpfs", "tmpfs", LAYER])
-        for it in (self.upper, f"{LAYER}/work", self.path):
+    def fill(self) -> None:
+        for it in (self.upper, f"{LAYER}/work"):
             os.mkdir(it)
-        done(
-            [
-                "mount",
-                "-t",
-                "overlay",
-                "overlay",
-                "-o",
-                f"lowerdir=/,upperdir={self.upper},workdir={LAYER}/work",
-                self.path,
-            ]
-        )
-        for it in ("dev", "tmp", "run"):
-            done(["mount", "-t", "tmpfs", "tmpfs", f"{self.path}/{it}"])
-        done(["mount", "-t", "proc", "proc", f"{self.path}/proc"])
-        os.chmod(f"{self.path}/tmp", 0o1777)
-        for name, number in DEVICES.items():
-            os.mknod(f"{self.path}/dev/{name}", 0o666 | stat.S_IFCHR, os.makedev(*number))
-            os.chmod(f"{self.path}/dev/{name}", 0o666)
-        os.symlink("/proc/self/fd", f"{self.path}/dev/fd")
+        options = f"lowerdir=/,upperdir={self.upper},workdir={LAYER}/work"
+        done(["mount", "-t", "overlay", "overlay", "-o", options, self.path])
         for folder in os.environ["PATH"].split(":"):
             if os.path.exists(rt := f"{folder}/rt"):
                 kit = os.path.dirname(os.path.dirname(os.path.realpath(rt)))
                 self.by_root("rm", "-rf", rt, kit)
-        self.by_root("useradd", "--create-home", "--shell", "/bin/bash", ACCOUNT)
 
-    def by_root(self, *words):
-        return done(
-            [
-                "chroot",
-                self.path,
-                "env",
-                "-i",
-                "PATH=/usr/sbin:/usr/bin:/sbin:/bin",
-                "DEBIAN_FRONTEND=noninteractive",
-                *words,
-            ]
-        )
-
-    def call(self, *words):
-        """A call by the account."""
-        return [
-            "chroot",
-            self.path,
-            "setpriv",
-            f"--reuid={ACCOUNT}",
-            f"--regid={ACCOUNT}",
-            "--init-groups",
-            "env",
-            "-i",
-            f"PATH={PATH}",
-            f"HOME=/home/{ACCOUNT}",
-            f"USER={ACCOUNT}",
-            "LANG=C.UTF-8",
-            "TERM=xterm",
-            "bash",
-            "-c",
-            'cd; exec "$@"',
-            "bash",
-            *words,
-        ]
-
-    def by(self, *words, text=""):
-        return done(self.call(*words), text)
-
-    def shell(self, script, text=""):
-        return self.by("bash", "-c", f"set -e; {script}", text=text)
-
-    def written(self):
+    def written(self) -> set[str]:
         """What the layer has, without what it has in the place of something of the machine's, and what is no matter of the package."""
         found = {
             os.path.relpath(f"{at}/{it}", self.upper)
@@ -194,7 +83,7 @@ class Root:
         }
 
 
-def hello_at_a_terminal(root):
+def hello_at_a_terminal(root: Root) -> None:
     """One of two terminals loads a program into its own node, and the other's node has nothing of it."""
     with Screen(root.call("connect", "one/farm-1", "ada")) as ada, Screen(
         root.call("connect", "one/farm-1", "bob")
@@ -214,7 +103,7 @@ def hello_at_a_terminal(root):
             assert it.end()[1] == 0
 
 
-def class_of_two(root):
+def class_of_two(root: Root) -> None:
     """A class of two students, from its names to the film of a record."""
     root.shell("printf 'Ada\\nBob\\n' > names; class --students names --nodes 1 one > told; class start one")
     try:
@@ -236,7 +125,7 @@ def class_of_two(root):
     )
 
 
-def script_is_answered(root, farm, folder):
+def script_is_answered(root: Root, farm: str, folder: str) -> None:
     """The stored example, by this command, with no toolchain anywhere."""
     assert root.shell("! command -v rt; ! command -v rattle") == ""
     for name in ("two-users", "word-plus-one"):
@@ -249,7 +138,7 @@ def script_is_answered(root, farm, folder):
     assert (len(told), [it for it in told if "NOT the program" in it or "not built" in it]) == (2, [])
 
 
-def pages_are_there(root):
+def pages_are_there(root: Root) -> None:
     """Man pages, what bash completes, the units and the package for Python."""
     for name in ("farm", "live", "lab", "serve", "connect", "class"):
         assert os.path.exists(f"{root.path}/usr/share/man/man1/{name}.1.gz")
@@ -271,7 +160,7 @@ def pages_are_there(root):
     assert os.path.isdir(f"{root.path}/usr/lib/nadzsumek/nadzsumek/__pycache__")
 
 
-def hashes_are_those_of(root, place):
+def hashes_are_those_of(root: Root, place: str) -> None:
     """The text by which somebody checks the programs is right, and sees a byte that is changed."""
     check = "sha256sum --check ../../../share/doc/nadzsumek/SHA256SUMS"
     told = root.shell(f"cd {place}/lib/nadzsumek/programs; {check}")
@@ -282,7 +171,7 @@ def hashes_are_those_of(root, place):
         assert re.search(rf"^{digest}  {name}$", about, re.M) is not None
 
 
-def package_is_installed_and_removed(root, package):
+def package_is_installed_and_removed(root: Layer, package: str) -> None:
     """Debian's package, from its installation to its end."""
     before = root.written()
     shutil.copy(package, f"{root.path}/tmp/nadzsumek.deb")
@@ -303,7 +192,7 @@ def package_is_installed_and_removed(root, package):
     )
 
 
-def archive_runs_where_it_is(root, archive):
+def archive_runs_where_it_is(root: Root, archive: str) -> None:
     """The archive, unpacked in the account's own folder."""
     shutil.copy(archive, f"{root.path}/tmp/nadzsumek.tar.xz")
     root.shell("mkdir own; tar -C own --strip-components=1 -xf /tmp/nadzsumek.tar.xz")
@@ -313,27 +202,11 @@ def archive_runs_where_it_is(root, archive):
     assert "ExecStart=/usr/local/bin/serve" in root.shell(f"cat {home}/share/nadzsumek/farm@.service")
 
 
-def in_a_root(act: Callable[[Root, str], None], package: str) -> None:
-    """Does something in a child that has mounts of its own, which no other process sees and which go with it."""
-    if lacking := why_no_root():
-        pytest.skip(f"the packages weren't installed, since {lacking}")
-    child = os.fork()
-    if child == 0:
-        try:
-            assert ctypes.CDLL(None).unshare(CLONE_NEWNS) == 0
-            done(["mount", "--make-rprivate", "/"])
-            act(Root(), package)
-        except BaseException:
-            traceback.print_exc()
-            sys.stderr.flush()
-            os._exit(1)
-        os._exit(0)
-    assert os.waitpid(child, 0)[1] == 0, "the child says above what is wrong"
-
-
 def test_package_is_installed_and_removed(packages: tuple[str, str]) -> None:
-    in_a_root(package_is_installed_and_removed, glob.glob(f"{packages[0]}/*.deb")[0])
+    package = glob.glob(f"{packages[0]}/*.deb")[0]
+    in_a_root(lambda: package_is_installed_and_removed(Layer(ACCOUNT), package))
 
 
 def test_archive_runs_where_it_is(packages: tuple[str, str]) -> None:
-    in_a_root(archive_runs_where_it_is, glob.glob(f"{packages[0]}/*.tar.xz")[0])
+    package = glob.glob(f"{packages[0]}/*.tar.xz")[0]
+    in_a_root(lambda: archive_runs_where_it_is(Layer(ACCOUNT), package))

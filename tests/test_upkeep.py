@@ -3,6 +3,7 @@ installations that fail or are stopped."""
 
 import contextlib
 import fcntl
+import glob
 import os
 import re
 import shutil
@@ -13,6 +14,7 @@ import time
 
 from support.courses import Course, child_of
 from support.live_lines import PLAN, SECONDS
+from support.roots import UNTRUE
 from support.serving_trials import Served, hears_ctrl_c
 from support.trials import EXAMPLES, TOP, contents, program, put, run_text
 
@@ -161,7 +163,9 @@ def test_installations_stay(folder: str) -> None:
     works()
     links, dead = dead_links(f"{prefix}/share/doc/nadzsumek")
     assert (dead, len(links) > 100) == ([], True)
-    assert os.path.isfile(f"{prefix}/share/doc/nadzsumek/guides/CLASS.md")
+    pages = glob.glob(f"{prefix}/share/doc/nadzsumek/**/*.md", recursive=True)
+    assert f"{prefix}/share/doc/nadzsumek/guides/CLASS.md" in pages
+    assert [(it, found[0]) for it in pages if (found := UNTRUE.search(contents(it).decode()))] == []
     script = f"{prefix}/lib/nadzsumek/examples/two-users.farm"
     assert ran(f"{prefix}/bin/farm", script, env={"PATH": "/usr/bin:/bin"}) == (
         0,
@@ -183,6 +187,40 @@ def test_installations_stay(folder: str) -> None:
             with contextlib.suppress(ProcessLookupError):
                 os.killpg(installing.pid, sent)
         works()
+
+
+def files_below(folder: str) -> set[str]:
+    """All paths below a folder, of folders too."""
+    return {f"{at}/{it}" for at, folders, names in os.walk(folder) for it in (*folders, *names)}
+
+
+def test_installations_are_removed(folder: str) -> None:
+    """What is installed is removed again, also what an earlier version had, and what others have put there stays."""
+    prefix, script = f"{folder}/prefix", f"{TOP}/tools/install"
+    os.makedirs(f"{prefix}/share/man/man1")
+    put(f"{prefix}/share/man/man1/other.1", "of others")
+    before = files_below(prefix)
+    assert ran(script, "--remove", prefix)[::2] == (
+        1,
+        f"install: there is no list {prefix}/lib/nadzsumek/INSTALLED, so nothing is removed\n",
+    )
+    assert ran(script, "--draft", prefix)[::2] == (0, "")
+    earlier = put(f"{prefix}/share/doc/nadzsumek/EARLIER.md", "a page of an earlier version")
+    with open(f"{prefix}/lib/nadzsumek/INSTALLED", "a", encoding="utf-8") as file:
+        file.write("share/doc/nadzsumek/EARLIER.md\n")
+    assert ran(script, "--draft", prefix)[::2] == (0, "")
+    assert not os.path.exists(earlier)
+    listed = contents(f"{prefix}/lib/nadzsumek/INSTALLED").decode().splitlines()
+    assert [it for it in listed if not os.path.exists(f"{prefix}/{it}")] == []
+    # Python has put its own beside the package, and somebody a page beside the pages
+    os.mkdir(f"{prefix}/lib/nadzsumek/nadzsumek/__pycache__")
+    other = put(f"{prefix}/share/doc/nadzsumek/OTHER.md", "of others")
+    assert ran(script, "--remove", prefix)[::2] == (0, "")
+    folders = {f"{prefix}/share/doc", f"{prefix}/share/doc/nadzsumek"}
+    assert files_below(prefix) == before | folders | {other}
+    os.remove(other)
+    assert ran(script, "--draft", f"{folder}/second")[0] == ran(script, "--remove", f"{folder}/second")[0] == 0
+    assert not os.path.exists(f"{folder}/second")
 
 
 def test_builds_wait_quietly() -> None:

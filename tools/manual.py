@@ -58,10 +58,19 @@ def entries(text: str) -> Iterator[tuple[str, str]]:
         yield name, " ".join(said)
 
 
+# A command as it is called at the top of a clone, and a page of it: who reads a man page has the first in the path.
+OF_CLONES = re.compile(r"(?<![\w/.])(?:\./(?=[a-z])|docs/(?=[\w/]+\.md))")
+
+
 def roff(text):
-    """A text as troff reads it."""
+    """A text as troff reads it, with commands and pages as they are installed."""
     safe = (
-        text.replace("\\", "\\e").replace("-", "\\-").replace("'", "\\(aq").replace("`", "\\(ga").replace("~", "\\(ti")
+        OF_CLONES.sub("", text)
+        .replace("\\", "\\e")
+        .replace("-", "\\-")
+        .replace("'", "\\(aq")
+        .replace("`", "\\(ga")
+        .replace("~", "\\(ti")
     )
     safe = safe.replace("^", "\\(ha")
     return f"\\&{safe}" if safe.startswith(".") else safe
