@@ -29,6 +29,8 @@ OPERATOR = "operator"
 PLAN = "plan"
 # What is kept of a class, in the folder above those of its farms.
 CLASS = "class.json"
+# What a `class` locks that changes a class, or starts and stops its farms. No other account can open it.
+CLASS_LOCK = "class.lock"
 # A lock of a whole file for one process alone, as `fcntl` reads and writes it: its kind, from where its bytes are counted,
 # its first byte, how many bytes there are (0: all), and the number of the process.
 LOCK = struct.Struct("@hhqqi4x")
@@ -159,10 +161,15 @@ def holder(folder: str) -> int | None:
             f"ask the account that started the farm there"
         ) from None
     try:
-        kind, *_, number = LOCK.unpack(fcntl.fcntl(file, fcntl.F_GETLK, LOCK.pack(fcntl.F_WRLCK, os.SEEK_SET, 0, 0, 0)))
-        return None if kind == fcntl.F_UNLCK else number
+        return locker(file)
     finally:
         os.close(file)
+
+
+def locker(file: int) -> int | None:
+    """The number of another process that has locked an open file; none if there is none."""
+    kind, *_, number = LOCK.unpack(fcntl.fcntl(file, fcntl.F_GETLK, LOCK.pack(fcntl.F_WRLCK, os.SEEK_SET, 0, 0, 0)))
+    return None if kind == fcntl.F_UNLCK else number
 
 
 def is_locked(folder: str) -> bool:
