@@ -3,10 +3,23 @@ by farms that are damaged, and at its end."""
 
 import fcntl
 import os
+import signal
 import stat
+import subprocess
+import time
 
 from nadzsumek.serving.changing import hold
-from support.courses import Course
+from support.courses import Course, child_of
+from support.live_lines import PLAN, SECONDS
+from support.serving_trials import Served
+
+
+def is_gone(number: int) -> bool:
+    """Whether a process ends within some seconds."""
+    end = time.monotonic() + SECONDS
+    while os.path.exists(f"/proc/{number}") and time.monotonic() < end:
+        time.sleep(0.05)
+    return not os.path.exists(f"/proc/{number}")
 
 
 def mode_of(path: str) -> int:
@@ -30,3 +43,30 @@ def test_no_other_account_locks_a_class() -> None:
             1,
             f"class: another class is at work at {it.folder}, process {os.getpid()}: wait until it has ended\n",
         )
+
+
+def test_no_live_is_left_by_a_serve() -> None:
+    """A `live` that reads no input, as while it does records again, ends with its `serve` too."""
+    with Served(PLAN) as it, it.held_live() as number:
+        it.process.kill()
+        it.process.wait()
+        assert is_gone(number)
+
+
+def test_a_live_that_is_left_is_named() -> None:
+    """`class stop` says which process has the records of a farm that no `serve` has."""
+    with Course(1) as it:
+        it.must("start")
+        it.must("stop")
+        with open(f"{it.folder}/farm-1/records/lock", "rb") as lock, subprocess.Popen(
+            ["sleep", "60"], stdin=lock
+        ) as other:
+            lock.close()
+            try:
+                stopped = it.call("stop", it.folder)
+            finally:
+                other.kill()
+    assert (stopped.returncode, stopped.stdout.splitlines()[-1]) == (
+        1,
+        f"farm-1: no serve has it, but a live (process {other.pid}) has its records still: kill {other.pid} ends it",
+    )
