@@ -1,17 +1,21 @@
 """That nothing of a class is lost or held up by somebody's hand: by locks and files of other accounts, by processes that are killed,
 by farms that are damaged, and at its end."""
 
+import contextlib
 import fcntl
 import os
 import signal
 import stat
 import subprocess
+import sys
 import time
+from collections.abc import Iterator
 
 from nadzsumek.serving.changing import hold
 from support.courses import Course, child_of
 from support.live_lines import PLAN, SECONDS
 from support.serving_trials import Served
+from support.trials import TOP, put, text_of
 
 
 def is_gone(number: int) -> bool:
@@ -20,6 +24,36 @@ def is_gone(number: int) -> bool:
     while os.path.exists(f"/proc/{number}") and time.monotonic() < end:
         time.sleep(0.05)
     return not os.path.exists(f"/proc/{number}")
+
+
+# A `class` whose supervisor starts soon again what has ended.
+SUPERVISING = """import sys
+sys.path.insert(0, {top!r})
+from nadzsumek.serving import classes, supervising
+supervising.AGAIN_SECONDS = 4
+sys.exit(classes.main(["serve", {folder!r}]))
+"""
+# A `live` that ends with the status of a record that isn't whole.
+UNWHOLE = """#!/bin/bash
+"{live}" "$@"
+exit 6
+"""
+
+
+@contextlib.contextmanager
+def supervised(it: Course) -> Iterator[str]:
+    """The process that has all farms of a class, until the end of a block; the path of what it says."""
+    path = f"{it.room.name}/said"
+    call = [sys.executable, "-B", "-c", SUPERVISING.format(top=TOP, folder=it.folder), "class"]
+    with open(path, "wb") as said, subprocess.Popen(call, env=it.env, stdout=said, stderr=said) as supervisor:
+        try:
+            yield path
+        finally:
+            supervisor.terminate()
+            try:
+                supervisor.wait(SECONDS)
+            finally:
+                supervisor.kill()
 
 
 def mode_of(path: str) -> int:
@@ -70,3 +104,18 @@ def test_a_live_that_is_left_is_named() -> None:
         1,
         f"farm-1: no serve has it, but a live (process {other.pid}) has its records still: kill {other.pid} ends it",
     )
+
+
+def test_a_farm_that_was_stopped_stays_off(live: str) -> None:
+    """The process that has a class starts no farm again that was stopped: neither one whose record isn't whole, nor one that had
+    failed before."""
+    with Course(2, "--nodes", "8") as it:
+        it.env["LIVE"] = put(f"{it.room.name}/live", UNWHOLE.format(live=live))
+        os.chmod(it.env["LIVE"], 0o755)
+        with supervised(it) as said:
+            it.must("start")
+            os.kill(it.lock(2), signal.SIGKILL)
+            assert it.must("stop").splitlines()[-2:] == ["farm-1: off", "farm-2: off"]
+            time.sleep(5)
+            assert it.must("status").count(" off ") == 2
+        assert [line for line in text_of(said).splitlines() if "farm-1 ended" in line] == []

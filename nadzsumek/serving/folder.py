@@ -177,6 +177,14 @@ def is_locked(folder: str) -> bool:
     return holder(folder) is not None
 
 
+def was_stopped(folder: str) -> bool:
+    """Whether the last `serve` of a folder ended since it was stopped, or since its folder was removed."""
+    try:
+        return os.path.getsize(os.path.join(folder, "lock")) == 0
+    except FileNotFoundError:
+        return True
+
+
 def made(path: str, mode: int) -> list[str]:
     """Makes a folder with this mode, whatever the mask of the process is, and the folders above it. Which were made, the
     lowest last."""
@@ -279,6 +287,10 @@ class Folder:
     def is_removed(self) -> bool:
         """Whether somebody has removed the folder, with the file of the lock. A folder that is moved has it still."""
         return os.fstat(self.file).st_nlink == 0
+
+    def mark_stopped(self) -> None:
+        """Lets who looks at the lock's file see that this process ends since it was stopped."""
+        os.ftruncate(self.file, 0)
 
     def plan_to_run(self, given: str) -> str:
         """The path of the plan that the farm runs: at its first start a copy of the one that is given, and then always this
