@@ -1,6 +1,8 @@
 """`serve` and `connect` as people use them: whose name stands before a line, clients that don't read, that flood or vanish, a `live`
 or a `serve` that is killed, a second `serve`, and what a terminal says."""
 
+import contextlib
+import fcntl
 import os
 import random
 import re
@@ -287,20 +289,29 @@ def test_one_serve_at_a_time() -> None:
         assert it.process.wait(timeout=SECONDS) == 0
 
 
+def is_free(lock: int) -> bool:
+    """Whether this process has a lock now."""
+    with contextlib.suppress(BlockingIOError):
+        fcntl.flock(lock, fcntl.LOCK_EX | fcntl.LOCK_NB)
+        return True
+    return False
+
+
 def test_records_are_waited_for() -> None:
-    """If `serve` is killed while its `live` can't end, the next `serve` says that it waits, and goes on when the
-    records are free."""
+    """If another program has the records, a `serve` that is started says which, waits, and goes on when they are free."""
     with Served(PLAN) as it:
         ann = it.client("ann")
         assert [ann.ask("config 01000703"), ann.ask("poke 0 80000100 12345678")] == ["config -", "poke 0 9"]
-        with it.held_live():
-            it.process.kill()
-            it.process.wait()
-            assert ann.hear() == ""
+        it.process.kill()
+        it.process.wait()
+        assert ann.hear() == ""
+        with open(f"{it.folder}/records/lock", "rb") as lock:
+            end = time.monotonic() + SECONDS
+            while not is_free(lock.fileno()) and time.monotonic() < end:
+                time.sleep(0.02)
             next_one = threading.Thread(target=it.start)
             next_one.start()
             # the next one removes what the first one left, and then waits
-            end = time.monotonic() + SECONDS
             while os.path.exists(f"{it.folder}/ann.sock") and time.monotonic() < end:
                 time.sleep(0.02)
             time.sleep(1)
@@ -308,7 +319,11 @@ def test_records_are_waited_for() -> None:
         next_one.join()
         assert it.ask("ann", "peek 0 80000100") == "peek 0 12345678"
         status, errors = it.stop()
-        assert (status, errors.decode().count("another live still has"), "records there" in errors.decode()) == (
+        assert (
+            status,
+            errors.decode().count(f"another live (process {os.getpid()}) still has"),
+            "records there" in errors.decode(),
+        ) == (
             0,
             1,
             False,

@@ -13,7 +13,7 @@ import time
 from collections.abc import Iterator
 from typing import TYPE_CHECKING
 
-from .folder import CLASS, FOLDER_MODE, PLAN, Refused, account_name, build, is_locked, made
+from .folder import CLASS, CLASS_LOCK, FOLDER_MODE, PLAN, Refused, account_name, build, is_locked, locker, made
 from .holders import serve_of
 from .kept import class_in
 from .places import parts_of, text_of
@@ -48,12 +48,21 @@ class StopForChange(Stop):
 @contextlib.contextmanager
 def hold(course: str, how: int) -> Iterator[None]:
     """Holds a class, for this process alone (LOCK_EX) or beside others that start and stop its farms (LOCK_SH)."""
-    file = os.open(course, os.O_RDONLY | os.O_DIRECTORY)
     try:
-        fcntl.flock(file, how | fcntl.LOCK_NB)
+        file = os.open(os.path.join(course, CLASS_LOCK), os.O_RDWR | os.O_CREAT | os.O_NOFOLLOW, OWN)
+    except PermissionError:
+        raise Refused(
+            f"this account ({account_name(os.geteuid())}) may not change the class in {course}, nor start or stop it: ask "
+            f"the account that made it ({account_name(os.stat(course).st_uid)})"
+        ) from None
+    try:
+        try:
+            fcntl.lockf(file, how | fcntl.LOCK_NB)
+        except OSError:
+            raise Refused(
+                f"another class is at work at {course}, process {locker(file)}: wait until it has ended"
+            ) from None
         yield
-    except BlockingIOError:
-        raise Refused(f"another class is at work at {course}: wait until it has ended") from None
     finally:
         os.close(file)
 

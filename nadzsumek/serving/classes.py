@@ -22,7 +22,7 @@ from .plans import LIMIT, Machine, farms_of, plan_of, students_of
 from .rooms import RECORD_ROOM, ROOM, Needed, add_rooms
 from .sheets import count, sheet, sheet_path, ways_of
 from .status import table, told_by
-from .supervising import Supervisor
+from .supervising import LEAVE_OFF, Supervisor, tell
 from .upkeep import INTERRUPTED, Stop, do_all
 from .verifying import verify
 from .versions import add_version
@@ -138,6 +138,7 @@ def stop(folder: str) -> int:
     """Stops each farm. Its records stay, and it goes on from them when it is started again."""
     class_in(folder)
     with hold(folder, fcntl.LOCK_SH):
+        tell(folder, LEAVE_OFF)
         return do_all([Stop(farm, folder) for farm in class_in(folder).farms])
 
 

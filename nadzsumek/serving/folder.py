@@ -29,6 +29,8 @@ OPERATOR = "operator"
 PLAN = "plan"
 # What is kept of a class, in the folder above those of its farms.
 CLASS = "class.json"
+# What a `class` locks that changes a class, or starts and stops its farms. No other account can open it.
+CLASS_LOCK = "class.lock"
 # A lock of a whole file for one process alone, as `fcntl` reads and writes it: its kind, from where its bytes are counted,
 # its first byte, how many bytes there are (0: all), and the number of the process.
 LOCK = struct.Struct("@hhqqi4x")
@@ -159,15 +161,28 @@ def holder(folder: str) -> int | None:
             f"ask the account that started the farm there"
         ) from None
     try:
-        kind, *_, number = LOCK.unpack(fcntl.fcntl(file, fcntl.F_GETLK, LOCK.pack(fcntl.F_WRLCK, os.SEEK_SET, 0, 0, 0)))
-        return None if kind == fcntl.F_UNLCK else number
+        return locker(file)
     finally:
         os.close(file)
+
+
+def locker(file: int) -> int | None:
+    """The number of another process that has locked an open file; none if there is none."""
+    kind, *_, number = LOCK.unpack(fcntl.fcntl(file, fcntl.F_GETLK, LOCK.pack(fcntl.F_WRLCK, os.SEEK_SET, 0, 0, 0)))
+    return None if kind == fcntl.F_UNLCK else number
 
 
 def is_locked(folder: str) -> bool:
     """Whether a `serve` has the folder at present."""
     return holder(folder) is not None
+
+
+def was_stopped(folder: str) -> bool:
+    """Whether the last `serve` of a folder ended since it was stopped, or since its folder was removed."""
+    try:
+        return os.path.getsize(os.path.join(folder, "lock")) == 0
+    except FileNotFoundError:
+        return True
 
 
 def made(path: str, mode: int) -> list[str]:
@@ -272,6 +287,10 @@ class Folder:
     def is_removed(self) -> bool:
         """Whether somebody has removed the folder, with the file of the lock. A folder that is moved has it still."""
         return os.fstat(self.file).st_nlink == 0
+
+    def mark_stopped(self) -> None:
+        """Lets who looks at the lock's file see that this process ends since it was stopped."""
+        os.ftruncate(self.file, 0)
 
     def plan_to_run(self, given: str) -> str:
         """The path of the plan that the farm runs: at its first start a copy of the one that is given, and then always this

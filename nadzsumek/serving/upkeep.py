@@ -13,7 +13,7 @@ from collections.abc import Sequence
 
 from .escapes import escaped
 from .folder import Refused, is_locked, program
-from .holders import end_serve, serve_of
+from .holders import end_serve, live_at, serve_of
 from .sheets import count
 from .status import ask_operator, operators_stream
 
@@ -183,13 +183,24 @@ class Stop(Work):
         self.has_signalled, self.why = False, ""
 
     def done(self) -> tuple[bool, str]:
-        if not is_locked(self.folder):
-            return True, "off"
         try:
-            return self.stopped()
+            is_well, told = self.stopped()
         finally:
             if self.stream is not None:
                 self.stream.close()
+        return self.without_live(told) if is_well else (False, told)
+
+    def without_live(self, told: str) -> tuple[bool, str]:
+        """The outcome of a farm that no `serve` has. A `live` by itself has only a moment to end."""
+        records, end = os.path.join(self.folder, "records"), time.monotonic() + LAST_SECONDS
+        while number := live_at(records):
+            if time.monotonic() > end:
+                return (
+                    False,
+                    f"no serve has it, but a live (process {number}) has its records still: kill {number} ends it",
+                )
+            time.sleep(PAUSE)
+        return True, told
 
     def stopped(self) -> tuple[bool, str]:
         """Asks it as soon as it can be asked, and waits until nobody has the folder."""
