@@ -24,6 +24,8 @@ MORE = "More bytes would come: --steps N with a larger N lets them"
 LIMIT, STEPS = LIMITS[-1], 20_000_000
 # After a line a node does so many Steps at most.
 STEPS_OF_LINE = 256 * 10_000
+# How often each host is asked for what came.
+MOST_ROUNDS = 10_000
 # A host's queue takes 4,096 bytes, so longer values are given in pieces.
 PIECE_BYTES = 2048
 # How many bytes of a host are shown.
@@ -166,11 +168,12 @@ def script_of(it: argparse.Namespace, limit: int) -> bytes:
     Steps are done that may be."""
     machine = wired(it, limit)
     lines = machine.loads([os.path.abspath(path) for path in it.programs])
+    collects = [f"collect {host}" for host in range(machine.hosts)]
     for host, content in it.sends:
-        pieces = [content[at : at + PIECE_BYTES] for at in range(0, len(content), PIECE_BYTES)]
-        lines += [f"write {host} {piece.hex()}" for piece in pieces]
-    rounds = min((it.steps or STEPS) // STEPS_OF_LINE + 1, 10_000)
-    lines += [f"collect {host}" for host in range(machine.hosts)] * rounds
+        for at in range(0, len(content), PIECE_BYTES):
+            # what comes is collected before more is sent, so that queues have room
+            lines += [f"write {host} {content[at : at + PIECE_BYTES].hex()}", *collects]
+    lines += collects * min((it.steps or STEPS) // STEPS_OF_LINE + 1, MOST_ROUNDS)
     return (machine.plan() + "---\n" + "".join(f"{USER} {line}\n" for line in lines)).encode("utf-8", "surrogateescape")
 
 

@@ -47,6 +47,7 @@ def test_a_program_by_itself(lab: str) -> None:
     mixed = lines_of(lab, f"{OCCAM}/echo.occ", "--send", "byte 255", "--send", '"word 5" hex 0a0b')
     assert mixed[:2] == ["host 0 got 9 bytes", "  bytes    ff 77 6f 72 64 20 35 0a 0b"]
     assert lines_of(lab, f"{OCCAM}/echo.occ")[0] == "host 0 got no byte"
+    assert lines_of(lab, f"{OCCAM}/echo.occ", "--send", 20_000 * "y")[0] == "host 0 got 20000 bytes"
 
 
 def test_a_row(lab: str, folder: str) -> None:

@@ -75,10 +75,11 @@ class Loading:
 
 
 class Due:
-    """A line that was sent, and whose answer hasn't come yet; `loading` if it is one of the many lines of a `load`."""
+    """A line that was sent, and whose answer hasn't come yet; `loading` if it is one of the many lines of a `load`. `is_told` if the
+    person was told that it is waited for."""
 
     def __init__(self, line: str, loading: Loading | None = None) -> None:
-        self.line, self.loading = line, loading
+        self.line, self.loading, self.is_told = line, loading, False
 
     def is_answered_by(self, answer: str) -> bool:
         """Whether this may be its answer: it has its verb, or that of the plain line in its place, and its host or node. Other
