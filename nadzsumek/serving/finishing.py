@@ -14,7 +14,7 @@ from typing import IO, TYPE_CHECKING
 from .changing import changing
 from .coming import REMOVED
 from .escapes import escaped
-from .folder import CLASS, PLAN, Refused, is_locked
+from .folder import CLASS, OWN_FILE, PLAN, Refused, is_locked, new_file
 from .records import PIECE, records_of
 from .sheets import count
 from .supervising import tell
@@ -23,7 +23,7 @@ from .upkeep import Stop, all_done
 if TYPE_CHECKING:
     from .changing import Change
 
-ENDING, OWN = ".tar.xz", 0o600
+ENDING = ".tar.xz"
 
 
 def entries_of(folder: str) -> list[str]:
@@ -131,7 +131,7 @@ def finish(words: list[str]) -> int:
         check_place(change, path)
         up = stop_all(change)
         try:
-            with open(os.open(f"{path}.new", os.O_RDWR | os.O_CREAT | os.O_TRUNC, OWN), "w+b") as file:
+            with open(new_file(f"{path}.new", OWN_FILE), "w+b") as file:
                 write(change, file)
             os.rename(f"{path}.new", path)
         except (OSError, Refused) as error:
