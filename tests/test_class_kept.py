@@ -153,3 +153,19 @@ def test_a_folder_with_links_is_refused() -> None:
         os.symlink(f"{it.folder}/sheets", f"{it.room.name}/other/sheets")
         done = it.call("--students", f"{it.room.name}/names.txt", "--nodes", "1", f"{it.room.name}/other")
         assert (done.returncode, "sheets is no folder" in done.stderr) == (1, True)
+
+
+def test_what_no_archive_has_stays() -> None:
+    """`class finish --remove` removes no file that isn't in the archive, and says which stay."""
+    with Course(1) as it:
+        it.must("start")
+        kept = [f"{it.folder}/{name}" for name in ("exercises/one.txt", "names.txt", "sheets/pdf/ada.pdf")]
+        for path in kept:
+            os.makedirs(os.path.dirname(path), exist_ok=True)
+            put(path, "mine")
+        done = it.call("finish", "--remove", it.folder)
+        there = sorted(f"{at}/{name}" for at, _, names in os.walk(it.folder) for name in names)
+        notes = [line for line in done.stdout.splitlines() if line.startswith("note: ")]
+        assert (done.returncode, done.stderr, there) == (0, "", kept)
+        assert notes == [f"note: {path} stays: the archive hasn't it" for path in kept]
+        assert sorted(os.listdir(it.folder)) == ["exercises", "names.txt", "sheets"]

@@ -219,7 +219,7 @@ a class that is there:
   class change DIR NAME       gives a student a machine of another shape, which begins anew, with --nodes N [--hosts H]
   class rename DIR OLD NEW    gives a student another name; the records go with him
   class finish DIR [ARCHIVE]  stops the class, and puts all records, plans and sheets into an archive (DIR.tar.xz unless
-                              given); with --remove the folder of the class is removed then
+                              given); with --remove what the archive has is removed then
   class verify DIR NAME FILE  says whether a file is what the farm has recorded of a student
   class check DIR EXERCISE PROGRAMS
                               tries each student's program in an exercise, in farms of its own, and prints a table; also for

@@ -31,6 +31,8 @@ PLAN = "plan"
 CLASS = "class.json"
 # What a `class` locks that changes a class, or starts and stops its farms. No other account can open it.
 CLASS_LOCK = "class.lock"
+# What the `serve` of a farm of a class says, in the folder of the farm.
+LOG = "serve.log"
 # A lock of a whole file for one process alone, as `fcntl` reads and writes it: its kind, from where its bytes are counted,
 # its first byte, how many bytes there are (0: all), and the number of the process.
 LOCK = struct.Struct("@hhqqi4x")

@@ -12,7 +12,7 @@ import time
 from collections.abc import Sequence
 
 from .escapes import escaped
-from .folder import Refused, is_locked, own_plan, program
+from .folder import LOG, Refused, is_locked, own_plan, program
 from .holders import end_serve, live_at, serve_of
 from .sheets import count
 from .status import ask_operator, operators_stream
@@ -101,7 +101,7 @@ class Start(Work):
         super().__init__(folder, course)
         self.users, self.rights, self.starts = users, rights, 0
         self.process: subprocess.Popen[bytes] | None = None
-        self.log, self.last = os.path.join(folder, "serve.log"), self.begun
+        self.log, self.last = os.path.join(folder, LOG), self.begun
         self.size: int | None = None
         self.news = ("", 0)
 
