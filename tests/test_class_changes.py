@@ -410,7 +410,10 @@ def test_wrong_changes_change_nothing() -> None:
         )
         if os.getuid() == 0:
             os.chown(f"{it.folder}/class.json", 65534, -1)
-            assert it.refused("remove", "student-1").split(":")[1] == " the class belongs to the account nobody"
+            assert (
+                it.refused("remove", "student-1").split(",")[0]
+                == "class: course/class.json belongs to the account nobody"
+            )
         assert it.lock(1) == serving
 
 

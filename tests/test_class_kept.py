@@ -119,3 +119,53 @@ def test_a_farm_that_was_stopped_stays_off(live: str) -> None:
             time.sleep(5)
             assert it.must("status").count(" off ") == 2
         assert [line for line in text_of(said).splitlines() if "farm-1 ended" in line] == []
+
+
+def test_what_others_may_write_is_refused() -> None:
+    """A class takes no folder and no file in which others may write, follows no link, and makes its files so that no mask gives
+    others a right to write them."""
+    before = os.umask(0)
+    try:
+        it = Course(1)
+    finally:
+        os.umask(before)
+    with it:
+        modes = {name: mode_of(f"{it.folder}/{name}") for name in ("farm-1/plan.toml", "sheets/student-1.txt")}
+        assert modes == {"farm-1/plan.toml": 0o644, "sheets/student-1.txt": 0o600}
+        for path in ("", "/class.json", "/farm-1", "/farm-1/plan.toml"):
+            mode = mode_of(it.folder + path)
+            os.chmod(it.folder + path, mode | 0o020)
+            done = it.call("start", it.folder)
+            assert (done.returncode, "other accounts may write" in done.stdout + done.stderr) == (1, True), path
+            os.chmod(it.folder + path, mode)
+        victim = put(f"{it.room.name}/victim", "mine")
+        for path in (f"{it.folder}.tar.xz.new", f"{it.room.name}/page.new"):
+            os.symlink(victim, path)
+        assert it.call("wall", "--once", it.folder, f"{it.room.name}/page").returncode == 0
+        assert it.call("finish", it.folder).returncode == 0
+        assert (text_of(victim), os.path.getsize(f"{it.room.name}/page") > 0) == ("mine", True)
+
+
+def test_a_folder_with_links_is_refused() -> None:
+    """A class is made in no folder that leads elsewhere."""
+    with Course(1) as it:
+        os.makedirs(f"{it.room.name}/other")
+        os.symlink(f"{it.folder}/sheets", f"{it.room.name}/other/sheets")
+        done = it.call("--students", f"{it.room.name}/names.txt", "--nodes", "1", f"{it.room.name}/other")
+        assert (done.returncode, "sheets is no folder" in done.stderr) == (1, True)
+
+
+def test_what_no_archive_has_stays() -> None:
+    """`class finish --remove` removes no file that isn't in the archive, and says which stay."""
+    with Course(1) as it:
+        it.must("start")
+        kept = [f"{it.folder}/{name}" for name in ("exercises/one.txt", "names.txt", "sheets/pdf/ada.pdf")]
+        for path in kept:
+            os.makedirs(os.path.dirname(path), exist_ok=True)
+            put(path, "mine")
+        done = it.call("finish", "--remove", it.folder)
+        there = sorted(f"{at}/{name}" for at, _, names in os.walk(it.folder) for name in names)
+        notes = [line for line in done.stdout.splitlines() if line.startswith("note: ")]
+        assert (done.returncode, done.stderr, there) == (0, "", kept)
+        assert notes == [f"note: {path} stays: the archive hasn't it" for path in kept]
+        assert sorted(os.listdir(it.folder)) == ["exercises", "names.txt", "sheets"]

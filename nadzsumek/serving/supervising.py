@@ -11,7 +11,7 @@ import sys
 import time
 
 from .escapes import escaped
-from .folder import Refused, holder, is_locked, program, was_stopped
+from .folder import Refused, holder, is_locked, own_plan, program, was_stopped
 from .kept import Kept, class_in
 from .upkeep import Start, is_up
 
@@ -130,7 +130,7 @@ class Supervisor:
         self.pending.discard(farm)
         self.leaving.discard(farm)
         self.plans[farm], self.begun[farm] = self.plan(farm), time.monotonic()
-        call = [program("serve"), *self.more, *kept.rights, *kept.rooms.words(), os.path.join(farm, "plan.toml"), farm]
+        call = [program("serve"), *self.more, *kept.rights, *kept.rooms.words(), own_plan(farm), farm]
         # pylint: disable-next=consider-using-with
         self.children[farm] = subprocess.Popen(call, stdin=subprocess.DEVNULL, start_new_session=True)
 
