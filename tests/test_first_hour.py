@@ -267,6 +267,7 @@ def test_lost_bytes_are_told() -> None:
         events = it.told("ann", "events")
         assert typed(it, "ann", "send 0 hi\nwrite 0 00\n") == ([unjoined, unjoined], 1)
         assert typed(it, "ann", "", "-c", "send 0 hi") == ([unjoined], 1)
+        assert '"refused": "lost"' in typed(it, "ann", "", "--json", "-c", "send 0 hi")[0][0]
         assert it.told("ann", "events") == events
         for before in ("send 0 hi\njoin 0 7\n", one_way):
             typed(it, "ann", before, "--unchecked")

@@ -28,6 +28,8 @@ if TYPE_CHECKING:
 
 # What divides the lines of a text of several.
 LINES = "\n"
+# How a script knows that bytes weren't sent since they would be lost.
+LOST = "lost"
 
 
 class Asking:
@@ -93,7 +95,7 @@ class Asking:
                 self.ask(line)
             return first != "quit"
         except Hindered as hindered:
-            self.show_fault(line, hindered.word, f"{hindered}")
+            self.show_fault(line, hindered.word if first == "load" else LOST, f"{hindered}")
         except Wrong as wrong:
             self.show_fault(line, "wrong", f"{wrong}")
         except NotAnswered as late:
