@@ -15,7 +15,7 @@ _nadzsumek_options() {
     lab\ why) echo '--at --program --steps -h --help' ;;
     lab\ film) echo '--from --count --program --json --steps -h --help' ;;
     lab\ expand) echo '-h --help' ;;
-    lab\ run) echo '--record --steps -h --help' ;;
+    lab\ run) echo '--record --steps -h --help --send --send-to --memory' ;;
     lab\ debug) echo '--program --steps -h --help' ;;
     serve) echo '-h --help --version --workers --quantum --room --record-room --mode --group --sync --patience' ;;
     connect) echo '-h --help --version -c --json --unchecked' ;;
@@ -46,7 +46,7 @@ _nadzsumek_values() {
     lab\ rows) echo '--steps' ;;
     lab\ why) echo '--at --program --steps' ;;
     lab\ film) echo '--from --count --program --steps' ;;
-    lab\ run) echo '--record --steps' ;;
+    lab\ run) echo '--record --steps --send --send-to --memory' ;;
     lab\ debug) echo '--program --steps' ;;
     serve) echo '--workers --quantum --room --record-room --mode --group --patience' ;;
     connect) echo '-c' ;;

@@ -410,7 +410,10 @@ def test_wrong_changes_change_nothing() -> None:
         )
         if os.getuid() == 0:
             os.chown(f"{it.folder}/class.json", 65534, -1)
-            assert it.refused("remove", "student-1").split(":")[1] == " the class belongs to the account nobody"
+            assert (
+                it.refused("remove", "student-1").split(",")[0]
+                == "class: course/class.json belongs to the account nobody"
+            )
         assert it.lock(1) == serving
 
 
@@ -429,7 +432,9 @@ def test_what_cannot_start_is_undone(live: str) -> None:
             said = it.refused("add", "broken").splitlines()
             assert (said[0].startswith(f"class: farm-1: {told}"), said[-1]) == (True, "class: all is as it was")
         with hold(it.folder, fcntl.LOCK_SH):
-            assert it.refused("add", "Ada") == "class: another class is at work at course: wait until it has ended\n"
+            assert it.refused("add", "Ada") == (
+                f"class: another class is at work at course, process {os.getpid()}: wait until it has ended\n"
+            )
         assert [it.word(f"student-{number}") for number in (1, 2, 3)] == [
             f"peek 0 {WORD}{number}" for number in (1, 2, 3)
         ]

@@ -96,8 +96,7 @@ def check_record(lab: str, record: bytes) -> None:
 
 @pytest.mark.parametrize("name", SCRIPTS)
 def test_lab_answers_as_the_farm(name: str, lab: str) -> None:
-    """`lab run` answers as `farm`, `lab replay` does so in the order of the script, `lab draw` draws the text, and what
-    `lab run --record` prints is right."""
+    """`lab run` answers as `farm`, `lab replay` does so in the order of the script, and what `lab run --record` prints is right."""
     path = f"{EXAMPLES}/{name}.farm"
     output, text, folder = contents(f"{EXAMPLES}/{name}.out"), contents(path), os.path.dirname(path)
     assert run([lab, "run", path], folder=folder) == (0, output, b"")
@@ -108,8 +107,6 @@ def test_lab_answers_as_the_farm(name: str, lab: str) -> None:
         status, record, errors = run([lab, "run", path, "--record", str(domain)])
         assert (status, errors) == (0, b"")
         check_record(lab, record)
-    status, out, errors = run([lab, "draw"], text, folder=folder)
-    assert (status, out[:4], errors) == (0, b"<svg", b"")
 
 
 def refusals() -> list[str]:

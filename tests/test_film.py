@@ -7,6 +7,7 @@ so is one of 100,000 events, whose page must be below 20 MB, open in less than t
 
 from __future__ import annotations
 
+import functools
 import json
 import os
 import random
@@ -357,11 +358,13 @@ def test_what_is_no_film_is_handed_on(fake: Path) -> None:
 @pytest.mark.parametrize("number", [signal.SIGINT, signal.SIGTERM])
 def test_a_signal_ends_the_program_too(fake: Path, number: signal.Signals) -> None:
     """The command ends as the program would by the signal, and the program with it, and nothing is said."""
+    # whoever runs the tests may ignore Ctrl-C
     with subprocess.Popen(
         [f"{TOP}/lab", "film", "long"],
         env={**os.environ, "LAB": str(fake)},
         stdout=subprocess.PIPE,
         stderr=subprocess.PIPE,
+        preexec_fn=functools.partial(signal.signal, number, signal.SIG_DFL),
     ) as command:
         pid = Path(f"{fake}.pid")
         while not pid.exists() or not pid.read_text(encoding="utf-8").strip():

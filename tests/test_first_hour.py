@@ -7,7 +7,7 @@ from support.courses import Course
 from support.live_lines import PLAN
 from support.screens import CONTROL_C, CONTROL_D, Screen
 from support.serving_trials import Served
-from support.trials import TOP, run_text, run_together, text_of
+from support.trials import TOP, put, run_text, run_together, text_of
 
 HELLO = 'collect 0 68656c6c6f0a  "hello\\n"'
 UNCHECKED = "connect --unchecked sends it even so"
@@ -250,9 +250,87 @@ def test_a_person_is_asked() -> None:
         assert it.stop()[0] == 0
 
 
+LOST = (
+    "a byte of host 0 was lost before, so the host sends nothing more. Type restart, and join again before anything is "
+    "sent"
+)
+NO_BYTE = "  (no byte has come: is the host joined with a node (join), and what does the node do (look)?)"
+
+
+def test_lost_bytes_are_told() -> None:
+    """What would be lost isn't sent where nobody can be asked; and of a host whose byte was lost load, send and collect say so, with
+    the way out. Nothing is recorded of what was looked at."""
+    unjoined = refused("host 0 is joined with no node, so all bytes would be lost", "join 0 7")
+    # in one direction alone an acknowledge is lost
+    one_way = "restart\nconfig 00070003\nwrite 0 05\njoin 0 7\n"
+    with Served(PLAN) as it:
+        events = it.told("ann", "events")
+        assert typed(it, "ann", "send 0 hi\nwrite 0 00\n") == ([unjoined, unjoined], 1)
+        assert typed(it, "ann", "", "-c", "send 0 hi") == ([unjoined], 1)
+        assert it.told("ann", "events") == events
+        for before in ("send 0 hi\njoin 0 7\n", one_way):
+            typed(it, "ann", before, "--unchecked")
+            told = [f"error: {LOST}, or {UNCHECKED}"]
+            for line in ("load 0 hello", "send 0 x", "write 0 00"):
+                assert (before, line, typed(it, "ann", f"{line}\n")) == (before, line, (told, 1))
+            for lines, _ in (typed(it, "ann", "collect 0\n"), typed(it, "ann", "", "-c", "text 0")):
+                assert lines == ["collect 0 -", NO_BYTE, f"  ({LOST})"]
+        assert typed(it, "ann", "restart\njoin 0 7\nload 0 echo\nsend 0 x\ncollect 0\ncollect 0\n")[0][3:] == [
+            "write 0 1",
+            'collect 0 78  "x"',
+            "collect 0 -",
+            NO_BYTE,
+        ]
+        assert it.stop()[0] == 0
+
+
+def test_a_person_who_sends_is_asked() -> None:
+    """At a terminal `y` joins and then sends."""
+    with Served(PLAN) as it, Screen([f"{TOP}/connect", it.folder, "ann"], HOME=it.room.name) as screen:
+        screen.until("ann> ")
+        for keys in ("n\r", "y\r"):
+            screen.press("send 0 hi\r")
+            screen.until("host 0 is joined with no node, so all bytes would be lost.")
+            screen.until("join 0 7 and then send? (y/n) ")
+            screen.press(keys)
+        screen.until("config -")
+        screen.until("write 0 2")
+        assert it.stop()[0] == 0
+
+
+def test_help_begins_with_what_is_used_first() -> None:
+    """The verbs that a beginner needs come first, those of bytes last, and no line is wider than 100 columns."""
+    with Served(PLAN) as it:
+        lines = typed(it, "ann", "help\n")[0]
+        assert max(map(len, lines)) <= 100
+        verbs = [line.split()[0] for line in lines if not line.startswith(" ")]
+        assert verbs[:6] == ["join", "load", "send", "collect", "why", "restart"]
+        assert lines.index("Byte by byte:") > 0
+        assert verbs[-6:] == ["Byte", "config", "write", "boot", "poke", "peek"]
+        assert max(map(len, typed(it, "operator", "help\n")[0])) <= 100
+        assert it.stop()[0] == 0
+
+
+def test_near_files_of_the_folder(folder: str) -> None:
+    """A file that is nearly named is offered, by the host that was named."""
+    put(f"{folder}/my.occ", "SKIP\n")
+    with Served(TWO_NODES) as it:
+        call = [f"{TOP}/connect", it.folder, "bob", "-c", "load 2 my.oc"]
+        told = run_text(call, cwd=folder).stderr
+        assert (
+            told == f"error: there is no file my.oc in {os.path.realpath(folder)}. Is it my.occ? Try: load 2 my.occ\n"
+        )
+        assert it.stop()[0] == 0
+
+
 # Words of other systems, with a part of what is said of each.
 ELSEWHERE = [
-    ("run hello", "load assembles a program and boots it"),
+    ("run hello", "load assembles a program and boots it; long code is poked first. Try: load 0 hello"),
+    ("run my.occ", "Try: load 0 my.occ"),
+    ("exec 0 my program.s", "Try: load 0 my program.s"),
+    ("load my.occ", "load wants the number of a host before the file. Try: load 0 my.occ"),
+    ("load 0 helo.s", "Is it hello.s? Try: load 0 hello.s"),
+    ("clear", "Ctrl-L clears the screen"),
     ("stop", "stop is a verb of the operator. reset resets a node"),
     ("read 0", "collect takes all bytes"),
     ("disconnect 0", "Try: config 0500"),
@@ -293,6 +371,7 @@ def test_words_of_elsewhere_have_hints() -> None:
             or "join joins" in line
         ]
         assert len(hinted) == len(names)
+        assert "restart" not in typed(it, "ann", "clear\n")[0][0].partition("Ctrl-L clears the screen")[0]
         for word in ("exit", "quit"):
             assert typed(it, "ann", f"rest\n{word}\nlook 0\n") == (["rest quiet"], 0)
         assert it.stop()[0] == 0

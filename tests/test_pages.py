@@ -20,7 +20,7 @@ LINES = (
     (["live", "--record", ""], "course"),
     (["live", "--vers"], "--version"),
     (["./lab", "tr"], "trace"),
-    (["lab", "d"], "draw disassemble debug"),
+    (["lab", "d"], "disassemble debug"),
     (["lab", "trace", "--b"], "--boot"),
     (["lab", "why", "--a"], "--at"),
     (["lab", "why", "--at", "3", "pl"], "plan.toml"),

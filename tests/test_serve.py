@@ -1,6 +1,8 @@
 """`serve` and `connect` as people use them: whose name stands before a line, clients that don't read, that flood or vanish, a `live`
 or a `serve` that is killed, a second `serve`, and what a terminal says."""
 
+import contextlib
+import fcntl
 import os
 import random
 import re
@@ -287,20 +289,29 @@ def test_one_serve_at_a_time() -> None:
         assert it.process.wait(timeout=SECONDS) == 0
 
 
+def is_free(lock: int) -> bool:
+    """Whether this process has a lock now."""
+    with contextlib.suppress(BlockingIOError):
+        fcntl.flock(lock, fcntl.LOCK_EX | fcntl.LOCK_NB)
+        return True
+    return False
+
+
 def test_records_are_waited_for() -> None:
-    """If `serve` is killed while its `live` can't end, the next `serve` says that it waits, and goes on when the
-    records are free."""
+    """If another program has the records, a `serve` that is started says which, waits, and goes on when they are free."""
     with Served(PLAN) as it:
         ann = it.client("ann")
         assert [ann.ask("config 01000703"), ann.ask("poke 0 80000100 12345678")] == ["config -", "poke 0 9"]
-        with it.held_live():
-            it.process.kill()
-            it.process.wait()
-            assert ann.hear() == ""
+        it.process.kill()
+        it.process.wait()
+        assert ann.hear() == ""
+        with open(f"{it.folder}/records/lock", "rb") as lock:
+            end = time.monotonic() + SECONDS
+            while not is_free(lock.fileno()) and time.monotonic() < end:
+                time.sleep(0.02)
             next_one = threading.Thread(target=it.start)
             next_one.start()
             # the next one removes what the first one left, and then waits
-            end = time.monotonic() + SECONDS
             while os.path.exists(f"{it.folder}/ann.sock") and time.monotonic() < end:
                 time.sleep(0.02)
             time.sleep(1)
@@ -308,7 +319,11 @@ def test_records_are_waited_for() -> None:
         next_one.join()
         assert it.ask("ann", "peek 0 80000100") == "peek 0 12345678"
         status, errors = it.stop()
-        assert (status, errors.decode().count("another live still has"), "records there" in errors.decode()) == (
+        assert (
+            status,
+            errors.decode().count(f"another live (process {os.getpid()}) still has"),
+            "records there" in errors.decode(),
+        ) == (
             0,
             1,
             False,
@@ -359,6 +374,18 @@ TYPED = [
     # 'say "a" A', a quote and an escape without quotes round them
     ('send 0  say "a" \\x41 ', "write 0 9"),
     ("text 0", 'collect 0 736179202261222041  "say \\"a\\" A"'),
+    # numbers, and the same as a text; what isn't printable and is whole words is shown as numbers
+    ("send 0 word 5 -7", "write 0 8"),
+    ("collect 0", "collect 0 05000000f9ffffff  5 -7"),
+    ("send 0 byte 255 #0a", "write 0 2"),
+    ("collect 0", "collect 0 ff0a"),
+    ("send 0 hex 0a0b", "write 0 2"),
+    ("collect 0", "collect 0 0a0b"),
+    ('send 0 "word 5"', "write 0 6"),
+    ("collect 0", 'collect 0 776f72642035  "word 5"'),
+    ("send 0 word of mouth", "write 0 13"),
+    ("collect 0", 'collect 0 776f7264206f66206d6f757468  "word of mouth"'),
+    ("send 0 word 5x", "error: '5x' is no number where a word is wanted. In quotes it is a text"),
     ("send 0 h\u00e9", "write 0 3"),
     ("text 0", 'collect 0 68c3a9  "h\u00e9"'),
     ('send 0 "a\\q"', 'error: \\q is no escape: there are \\n \\r \\t \\0 \\\\ \\" and \\x41'),
@@ -380,20 +407,27 @@ TYPED = [
     ),
     ("collect 0", "collect 0 -"),
     ("", "  (no byte has come: is the host joined with a node (join), and what does the node do (look)?)"),
+    (
+        "",
+        "  (a byte of host 0 was lost before, so the host sends nothing more. Type restart, and join again before "
+        "anything is sent)",
+    ),
     ("restart", "restart ok"),
     ("join 0 7", "config -"),
     ("load 0 hello", "boot 0 17"),
     ("collect 0", 'collect 0 68656c6c6f0a  "hello\\n"'),
     ("help load", f"{'load 0 hello.s':<32} {LOAD}"),
-    ("", " " * 33 + "a file whose name ends with .occ has a program in occam, which is compiled instead"),
-    ("", " " * 33 + "the file is looked for in the folder where this terminal was opened, then among the examples"),
-    (
-        "",
-        " " * 33
-        + "a node that has booted takes no other boot until it is reset (reset 0): if the bytes would boot nothing it "
-        "says so,",
+    *(
+        ("", " " * 33 + text)
+        for text in (
+            "a file whose name ends with .occ has a program in occam, which is",
+            "compiled instead",
+            "the file is looked for in the folder where this terminal was",
+            "opened, then among the examples",
+            "a node that has booted takes no other boot until it is reset (reset",
+            "0): if the bytes would boot nothing it says so, and asks what to do",
+        )
     ),
-    ("", " " * 33 + "and asks what to do"),
     ("lok 0", "error: there is no verb 'lok'. Is it look? Try: look 0"),
     ("Join 0 7", "error: there is no verb 'Join'. Is it join? Try: join 0 7"),
     ("LOAD 0 hello", "error: there is no verb 'LOAD'. Is it load? Try: load 0 hello.s"),
@@ -471,7 +505,7 @@ def test_hints_name_own_ports() -> None:
                 "config -",
                 f"error: there is no verb 'sned'. Is it send? Try: send {host} \"hello\\n\"",
             ]
-        assert typed(it, "bob", "write 2 00\nhelp load\n")[:2] == ["write 2 1", f"{'load 2 hello.s':<32} {LOAD}"]
+        assert typed(it, "bob", "join 1 6\nhelp load\n")[:2] == ["config -", f"{'load 2 hello.s':<32} {LOAD}"]
         # the farm has a copy of its plan, by which terminals go
         os.remove(it.plan)
         assert typed(it, "ann", "JOIN\n")[0][-8:] == "join 1 4"

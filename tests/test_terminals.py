@@ -54,8 +54,9 @@ def test_keys_do_what_they_say() -> None:
             operator.until("!words 0:2c7 1:0 ")
             operator.until("operator> ")
             operator.line("rest\ta\t", ["!restart ann ok"])
-            # two lines are those by which serve asks for the users, three those by which a load looks first, and eight are ann's
-            operator.line("restart zed", ["! error 16 user", "  (there is no such user: users lists them)"])
+            # two lines are those by which serve asks for the users, three each those by which a load and a collect without a byte
+            # look, and eight are ann's
+            operator.line("restart zed", ["! error 19 user", "  (there is no such user: users lists them)"])
         assert it.stop()[0] == 0
 
 
@@ -85,3 +86,16 @@ def test_farm_goes_away() -> None:
             it.process.kill()
             told, status = ann.end()
             assert ("error: the farm has ended the connection" in told, status) == (True, 3)
+
+
+def test_late_answers_are_waited_for() -> None:
+    """A line that isn't answered within half a second says so, once."""
+    with Served(PLAN) as it, terminal(it, "ann", it.room.name) as ann:
+        with it.held_live():
+            ann.press("rest\r")
+            ann.until("rest\r\n(waiting)\r\nann> ")
+            ann.press("\r")
+            ann.until("ann> ")
+        assert "(waiting)" not in ann.until("rest quiet")
+        ann.line("rest", ["rest quiet"])
+        assert it.stop()[0] == 0

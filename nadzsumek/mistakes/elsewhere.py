@@ -76,7 +76,7 @@ VERBS = {
     "send": "put print transmit say tx type enter",
     "join": "link wire attach plug route bind pair",
     "reset": "stop halt kill abort break cancel interrupt terminate end",
-    "restart": "reboot init initialise initialize clear new fresh erase wipe format undo",
+    "restart": "reboot init initialise initialize new fresh erase wipe format undo",
     "look": "status state stat ps top jobs info inspect examine regs registers node nodes",
     "why": "debug explain trace error errors what where problem wtf",
     "ports": "port switch connections topology network map wiring host hosts links",
@@ -87,6 +87,8 @@ VERBS = {
 }
 # What disconnects has no verb of its own.
 DISCONNECT = frozenset("disconnect unjoin unlink detach unplug separate cut".split())
+# What empties a screen elsewhere.
+CLEAR = frozenset("clear cls".split())
 BY_WORD = {word: verb for verb, words in VERBS.items() for word in words.split()}
 
 
@@ -110,6 +112,8 @@ def meant(word: str, table: Mapping[str, Known]) -> str | None:
     if BY_WORD.get(low) in table:
         verb = table[BY_WORD[low]]
         return f"{BY_WORD[low]} {verb.meaning}. Try: {verb.example}"
+    if low in CLEAR:
+        return "Ctrl-L clears the screen, and restart makes your machine as it was opened. Try: help"
     load = table.get("load")
     if load is None:
         return None

@@ -4,6 +4,7 @@ is said of the lines of a script use this table."""
 from __future__ import annotations
 
 import re
+import textwrap
 from collections.abc import Mapping
 from typing import NamedTuple, Protocol
 
@@ -47,14 +48,34 @@ class Verb(NamedTuple):
 LOADING = (
     "a file whose name ends with .occ has a program in occam, which is compiled instead",
     "the file is looked for in the folder where this terminal was opened, then among the examples",
-    "a node that has booted takes no other boot until it is reset (reset 0): if the bytes would boot nothing it says so,",
+    "a node that has booted takes no other boot until it is reset (reset 0): if the bytes would boot nothing it says so, "
     "and asks what to do",
 )
+SENDING = ("or numbers: send 0 word 5 -7, byte 1 2 or hex 0a0b; in quotes it is a text",)
 ROOMS = (
     "then rests if the machine rests, the bytes of its room that are used and that there are, and the same of its records",
 )
 # The verbs of a user whose ports aren't known.
 USERS = {
+    "join": Verb(
+        (PORT, PORT), "join P Q", "joins two ports both ways and makes them ready: those of a link and of a host"
+    ),
+    "load": Verb(
+        (HOST, FILE), "load 0 hello.s", "assembles a program and boots it; long code is poked first", more=LOADING
+    ),
+    "send": Verb((HOST, TEXT), 'send 0 "hello\\n"', "gives a host the bytes of a text", more=SENDING),
+    "collect": Verb((HOST,), "collect 0", "takes all bytes that came to the host"),
+    "why": Verb((NODE,), "why 0", "tells why a node waits, halted or runs on; why alone tells it of all nodes", 1),
+    "restart": Verb(
+        (), "restart", "makes your machine as it was opened, and gives its room back, if it is yours alone"
+    ),
+    "reset": Verb((NODE,), "reset 0", "resets a node; its memory stays"),
+    "look": Verb((NODE,), "look 0", "tells a node's state, and how many bytes each link dropped"),
+    "rest": Verb(
+        (), "rest", "tells whether something goes on in your machine: quiet or busy; full if its room is used up"
+    ),
+    "ports": Verb((), "ports", "tells which ports are joined, and what is there; it changes nothing"),
+    "text": Verb((HOST,), "text 0", "takes all bytes that came to the host, as collect does"),
     "config": Verb(
         (HEX,), "config 01000103", "sends configuration bytes: here 01 joins the ports 0 and 1, 03 makes ready"
     ),
@@ -66,25 +87,6 @@ USERS = {
         (HOST, ADDRESS, WORD), "poke 0 80000100 12345678", "stores a word in a booting node, through the host"
     ),
     "peek": Verb((HOST, ADDRESS), "peek 0 80000100", "reads a word of a booting node, through the host"),
-    "collect": Verb((HOST,), "collect 0", "takes all bytes that came to the host"),
-    "reset": Verb((NODE,), "reset 0", "resets a node; its memory stays"),
-    "look": Verb((NODE,), "look 0", "tells a node's state, and how many bytes each link dropped"),
-    "why": Verb((NODE,), "why 0", "tells why a node waits, halted or runs on; why alone tells it of all nodes", 1),
-    "rest": Verb(
-        (), "rest", "tells whether something goes on in your machine: quiet or busy; full if its room is used up"
-    ),
-    "restart": Verb(
-        (), "restart", "makes your machine as it was opened, and gives its room back, if it is yours alone"
-    ),
-    "ports": Verb((), "ports", "tells which ports are joined, and what is there; it changes nothing"),
-    "join": Verb(
-        (PORT, PORT), "join P Q", "joins two ports both ways and makes them ready: those of a link and of a host"
-    ),
-    "load": Verb(
-        (HOST, FILE), "load 0 hello.s", "assembles a program and boots it; long code is poked first", more=LOADING
-    ),
-    "send": Verb((HOST, TEXT), 'send 0 "hello\\n"', "gives a host the bytes of a text"),
-    "text": Verb((HOST,), "text 0", "takes all bytes that came to the host, as collect does"),
 }
 OPERATORS = {
     "words": Verb((), "words", "the words of the 32 physical outputs"),
@@ -101,6 +103,9 @@ ALL = {
     "quit": Verb((), "quit", "leaves the farm as it is and ends this terminal, as exit and Ctrl-D do"),
 }
 # The verbs of a script for `farm`, and those that the lab spells out.
+# The verbs of users who write bytes as the switch and a node take them, and what is above them where verbs are listed. Lines there
+# have so many letters at most, and what a verb does begins behind its example.
+OF_BYTES, BYTES_HEAD, WIDTH, EXAMPLE = ("config", "write", "boot", "poke", "peek"), "Byte by byte:", 100, 32
 OF_SCRIPTS = ("config", "write", "boot", "poke", "peek", "collect", "reset", "look")
 SHORTHAND = ("load", "join", "send", "text")
 # Another word for a verb.
@@ -190,10 +195,15 @@ def goes_on(answer: str) -> bool:
 
 
 def help_lines(table: Mapping[str, Verb], word: str | None = None) -> list[str]:
-    """An example of each verb with what it does, or of one."""
-    chosen = {word: find(table, word)} if word else table
-    return [
-        line
-        for verb in chosen.values()
-        for line in (f"{verb.example:<32} {verb.meaning}", *(f"{'':<32} {text}" for text in verb.more))
-    ]
+    """An example of each verb with what it does, or of one. The verbs of bytes come last."""
+    if word:
+        return lines_about(find(table, word))
+    plain = [line for name, verb in table.items() if name not in OF_BYTES for line in lines_about(verb)]
+    bytewise = [line for name, verb in table.items() if name in OF_BYTES for line in lines_about(verb)]
+    return [*plain, *([BYTES_HEAD] if bytewise else []), *bytewise]
+
+
+def lines_about(verb: Verb) -> list[str]:
+    """An example of a verb, and beside it what it does."""
+    said = [line for text in (verb.meaning, *verb.more) for line in textwrap.wrap(text, WIDTH - EXAMPLE - 1)]
+    return [f"{example:<{EXAMPLE}} {line}" for example, line in zip([verb.example, *[""] * len(said)], said)]

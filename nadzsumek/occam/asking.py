@@ -32,6 +32,8 @@ WITH_CORE = b"core"
 # How the first line of a question begins that wants help for a refusal.
 HELP = b"help "
 NOT_STARTED = 6
+# How the names of programs end, in occam and in assembly.
+PROGRAMS = (".occ", ".s")
 
 
 def answer_all(folder: str) -> None:
@@ -112,7 +114,12 @@ def run_lab(program: str, words: list[str]) -> NoReturn:
 
 
 def start(program: str, words: list[str]) -> NoReturn:
-    """Runs the lab with these words. The film that it prints becomes a page, unless the words ask for JSON."""
+    """Runs the lab with these words. The film that it prints becomes a page, unless the words ask for JSON; and programs are run
+    here, by a plan and a script that are made for them."""
+    if words[:1] == ["run"] and any(it in ("-h", "--help") or it.endswith(PROGRAMS) for it in words):
+        from nadzsumek.run import main
+
+        sys.exit(main(program, words[1:]))
     if words[:1] == ["film"] and "--json" not in words:
         from nadzsumek.film.page import run_beside
 

@@ -3,11 +3,11 @@ import re
 
 from ..mistakes.verbs import NUMBERED
 from .texts import bytes_meant
+from .values import as_letters, as_numbers
 
 LOST = "error: not answered, send it again if you want it: "
 # So ends what is told of a line that is too long to be told.
 MORE = ".."
-SHOWN = {"\n": "\\n", "\r": "\\r", "\t": "\\t", "\\": "\\\\", '"': '\\"'}
 # What answers mean, and what can be done.
 MEANINGS = (
     (
@@ -75,10 +75,11 @@ class Loading:
 
 
 class Due:
-    """A line that was sent, and whose answer hasn't come yet; `loading` if it is one of the many lines of a `load`."""
+    """A line that was sent, and whose answer hasn't come yet; `loading` if it is one of the many lines of a `load`. `is_told` if the
+    person was told that it is waited for."""
 
     def __init__(self, line: str, loading: Loading | None = None) -> None:
-        self.line, self.loading = line, loading
+        self.line, self.loading, self.is_told = line, loading, False
 
     def is_answered_by(self, answer: str) -> bool:
         """Whether this may be its answer: it has its verb, or that of the plain line in its place, and its host or node. Other
@@ -154,14 +155,9 @@ def with_meaning(line: str | None, answer: str) -> list[str]:
 
 
 def with_text(answer: str) -> str:
-    """An answer, and behind the bytes that were collected their text, if that can be printed."""
+    """An answer, and behind the bytes that were collected their text, if that can be printed, or else their numbers, if they are
+    whole words."""
     collected = re.fullmatch(r"collect \d+ ((?:[0-9a-f]{2})+)", answer)
-    if not collected:
-        return answer
-    try:
-        text = bytes.fromhex(collected[1]).decode()
-    except UnicodeDecodeError:
-        return answer
-    if not all(it.isprintable() or it in "\n\r\t" for it in text):
-        return answer
-    return f'{answer}  "{"".join(SHOWN.get(it, it) for it in text)}"'
+    content = bytes.fromhex(collected[1]) if collected else b""
+    shown = as_letters(content) or as_numbers(content) if content else None
+    return f"{answer}  {shown}" if shown else answer

@@ -18,7 +18,7 @@ from .answers import Loading, meaning, refusal, shortfall, with_meaning
 from .connections import NO_FARM, REFUSED
 from .escapes import escaped
 from .folder import Refused
-from .loads import Hindered, check_load
+from .loads import LOOKING, Hindered, check_line, remark_on
 from .orders import lines_of, split, table_of
 from .ports import joins_told, wiring_of
 
@@ -52,6 +52,12 @@ class Asking:
             more = {"meaning": meaning(answer) or shortfall(asked, answer)} if word else {}
             if not word and at == len(answers) - 1:
                 more["result"] = plain(result_of(answers))
+            remark = (
+                remark_on(self.folder, self.user.name, self.wiring, answer)
+                if self.is_checked and not self.is_json
+                else None
+            )
+            texts += [remark] if remark else []
             if texts:
                 self.show(texts, line=line, answer=answer, refused=word, **more)
             self.status = REFUSED if word else self.status
@@ -81,9 +87,9 @@ class Asking:
                 texts = help_lines(table_of(self.user.name, self.ports), words[0] if words else None)
                 self.show(texts, line=line, help=texts)
             elif first != "quit":
-                if first == "load" and self.is_checked:
+                if first in LOOKING and self.is_checked:
                     lines_of(self.user.name, line, self.ports)
-                    check_load(self.folder, self.user.name, self.wiring, int(words[0]), words[1])
+                    check_line(self.folder, self.user.name, self.wiring, first, words)
                 self.ask(line)
             return first != "quit"
         except Hindered as hindered:

@@ -13,7 +13,22 @@ import time
 from collections.abc import Iterator
 from typing import TYPE_CHECKING
 
-from .folder import CLASS, FOLDER_MODE, PLAN, Refused, account_name, build, is_locked, made
+from .folder import (
+    CLASS,
+    CLASS_LOCK,
+    COPY_MODE,
+    FOLDER_MODE,
+    OWN_FILE,
+    PLAN,
+    Refused,
+    build,
+    check_own,
+    check_own_file,
+    is_locked,
+    locker,
+    made,
+    put_whole,
+)
 from .holders import serve_of
 from .kept import class_in
 from .places import parts_of, text_of
@@ -32,7 +47,8 @@ if TYPE_CHECKING:
 UNIT = re.compile(r"class@.*\.service")
 # The line between the plan of a record and its events, and how many bytes its plan has at most.
 DIVIDER, MOST_HEAD = b"\n---\n", 1 << 16
-OWN = 0o600
+# How the name of a sheet ends.
+SHEET = ".txt"
 ANSWER_SECONDS = 10
 
 
@@ -48,12 +64,17 @@ class StopForChange(Stop):
 @contextlib.contextmanager
 def hold(course: str, how: int) -> Iterator[None]:
     """Holds a class, for this process alone (LOCK_EX) or beside others that start and stop its farms (LOCK_SH)."""
-    file = os.open(course, os.O_RDONLY | os.O_DIRECTORY)
+    check_own(os.path.realpath(course))
+    check_own_file(os.path.join(course, CLASS))
+    file = os.open(os.path.join(course, CLASS_LOCK), os.O_RDWR | os.O_CREAT | os.O_NOFOLLOW, OWN_FILE)
     try:
-        fcntl.flock(file, how | fcntl.LOCK_NB)
+        try:
+            fcntl.lockf(file, how | fcntl.LOCK_NB)
+        except OSError:
+            raise Refused(
+                f"another class is at work at {course}, process {locker(file)}: wait until it has ended"
+            ) from None
         yield
-    except BlockingIOError:
-        raise Refused(f"another class is at work at {course}: wait until it has ended") from None
     finally:
         os.close(file)
 
@@ -94,15 +115,12 @@ def starting(kept: Kept, farm: str, course: str, users: list[str], supervised: t
 
 
 def rewritten(path: str, text: bytes | None) -> None:
-    """Writes a file anew, with the mode that it had. None removes it."""
+    """Writes a file anew, with the mode that it had; a new sheet is for this account alone. None removes it."""
     if text is None:
         os.unlink(path)
         return
-    with open(f"{path}.new", "wb") as it:
-        it.write(text)
-    if os.path.exists(path):
-        shutil.copymode(path, f"{path}.new")
-    os.replace(f"{path}.new", path)
+    mode = os.lstat(path).st_mode & 0o777 if os.path.lexists(path) else OWN_FILE if path.endswith(SHEET) else COPY_MODE
+    put_whole(path, text, mode)
 
 
 def contents(path: str) -> bytes | None:
@@ -116,7 +134,7 @@ def contents(path: str) -> bytes | None:
 
 def copied(path: str, old: str, name: str, new: str) -> None:
     """Copies a record under a new path, with another name of its user in its plan."""
-    with open(path, "rb") as here, open(os.open(new, os.O_WRONLY | os.O_CREAT | os.O_EXCL, OWN), "wb") as there:
+    with open(path, "rb") as here, open(os.open(new, os.O_WRONLY | os.O_CREAT | os.O_EXCL, OWN_FILE), "wb") as there:
         head, divider, rest = here.read(MOST_HEAD).partition(DIVIDER)
         there.write(head.replace(b'name = "%s"' % old.encode(), b'name = "%s"' % name.encode(), 1) if divider else head)
         there.write(divider + rest)
@@ -145,11 +163,6 @@ class Change:
 
     def __init__(self, course: str) -> None:
         self.course, self.kept = os.path.abspath(course), class_in(course)
-        owner = os.stat(os.path.join(self.course, CLASS)).st_uid
-        if owner != os.geteuid():
-            raise Refused(
-                f"the class belongs to the account {account_name(owner)}: runuser -u {account_name(owner)} -- class .."
-            )
         self.farms = {farm: [*names] for farm, names in self.kept.farms.items()}
         self.removed, self.earlier = dict(self.kept.removed), dict(self.kept.earlier)
         self.parts: dict[str, list[Part]] = {}
@@ -239,7 +252,7 @@ class Change:
         ]
         for path, source in self.records.items():
             if source is None:
-                with open(os.open(path, os.O_WRONLY | os.O_CREAT | os.O_EXCL, OWN), "wb"):
+                with open(os.open(path, os.O_WRONLY | os.O_CREAT | os.O_EXCL, OWN_FILE), "wb"):
                     pass
             else:
                 copied(*source, path)

@@ -16,7 +16,7 @@ from nadzsumek.occam.asking import BOUNDED
 from .coming import person_of
 from .escapes import escaped
 from .exercises import LANGUAGES, MOST_STEPS, OWN_FOLDER, exercise_in, is_own
-from .folder import Refused, build, program
+from .folder import Refused, build, program, put_whole
 from .kept import class_in
 from .marks import as_csv, as_page, as_table
 from .plans import VERSION, user_name
@@ -248,9 +248,7 @@ def row_of(exercise: Exercise, user: str, person: str, paths: list[str]) -> Row:
 
 def written(path: str, text: str) -> None:
     """Writes a file, whole or not at all."""
-    with open(f"{path}.new", "w", encoding="utf-8", errors="backslashreplace", newline="") as it:
-        it.write(text)
-    os.replace(f"{path}.new", path)
+    put_whole(path, text.encode(errors="backslashreplace"), None)
 
 
 def check(words: list[str]) -> int:

@@ -16,13 +16,29 @@ from .checking import check
 from .coming import add, change_one, remove, rename
 from .escapes import escaped, set_errors
 from .finishing import finish
-from .folder import CLASS, FOLDER_MODE, Refused, build, is_locked, made, mode_of, program, socket_path
-from .kept import Kept, Rooms, class_in, keep, save
+from .folder import (
+    CLASS,
+    COPY_MODE,
+    FOLDER_MODE,
+    OWN_FILE,
+    Refused,
+    build,
+    check_own,
+    check_own_file,
+    is_locked,
+    made,
+    mode_of,
+    own_plan,
+    program,
+    put_whole,
+    socket_path,
+)
+from .kept import Kept, Rooms, class_in, keep
 from .plans import LIMIT, Machine, farms_of, plan_of, students_of
 from .rooms import RECORD_ROOM, ROOM, Needed, add_rooms
 from .sheets import count, sheet, sheet_path, ways_of
 from .status import table, told_by
-from .supervising import Supervisor
+from .supervising import LEAVE_OFF, Supervisor, tell
 from .upkeep import INTERRUPTED, Stop, do_all
 from .verifying import verify
 from .versions import add_version
@@ -60,13 +76,16 @@ def make(words: argparse.Namespace) -> int:
     for farm in farms:
         for name in farms[farm]:
             socket_path(os.path.join(folder, farm), name)
-    made(os.path.join(folder, "sheets"), FOLDER_MODE)
+    for it in ("sheets", *farms):
+        made(os.path.join(folder, it), FOLDER_MODE)
+        check_own(os.path.join(folder, it))
+    check_own(folder)
     for farm, names in farms.items():
         place = os.path.join(folder, farm)
-        made(place, FOLDER_MODE)
-        save(os.path.join(place, "plan.toml"), plan_of(names, machine))
+        put_whole(os.path.join(place, "plan.toml"), plan_of(names, machine).encode(), COPY_MODE)
         for name in names:
-            save(sheet_path(folder, name), sheet(students[name], name, machine, place, ways))
+            text = sheet(students[name], name, machine, place, ways)
+            put_whole(sheet_path(folder, name), text.encode(), OWN_FILE)
     rights = ["--mode", f"{words.mode:03o}"] + (["--group", words.group] if words.group else [])
     rooms = Rooms(words.room, words.record_room)
     keep(folder, Kept(farms, rights, rooms, machine))
@@ -123,6 +142,7 @@ def serve(*words: str) -> int:
         )
     farm = os.path.abspath(farm)
     if os.path.isfile(os.path.join(farm, CLASS)):
+        check_own_file(os.path.join(farm, CLASS))
         class_in(farm)
         return Supervisor(farm, more).run()
     kept = class_in(os.path.dirname(farm))
@@ -130,7 +150,7 @@ def serve(*words: str) -> int:
         raise Refused(
             f"{farm} is no farm of its class: there are {', '.join(os.path.basename(it) for it in kept.farms)}"
         )
-    call = [program("serve"), *more, *kept.rights, *kept.rooms.words(), os.path.join(farm, "plan.toml"), farm]
+    call = [program("serve"), *more, *kept.rights, *kept.rooms.words(), own_plan(farm), farm]
     os.execv(call[0], call)
 
 
@@ -138,6 +158,7 @@ def stop(folder: str) -> int:
     """Stops each farm. Its records stay, and it goes on from them when it is started again."""
     class_in(folder)
     with hold(folder, fcntl.LOCK_SH):
+        tell(folder, LEAVE_OFF)
         return do_all([Stop(farm, folder) for farm in class_in(folder).farms])
 
 
@@ -198,7 +219,7 @@ a class that is there:
   class change DIR NAME       gives a student a machine of another shape, which begins anew, with --nodes N [--hosts H]
   class rename DIR OLD NEW    gives a student another name; the records go with him
   class finish DIR [ARCHIVE]  stops the class, and puts all records, plans and sheets into an archive (DIR.tar.xz unless
-                              given); with --remove the folder of the class is removed then
+                              given); with --remove what the archive has is removed then
   class verify DIR NAME FILE  says whether a file is what the farm has recorded of a student
   class check DIR EXERCISE PROGRAMS
                               tries each student's program in an exercise, in farms of its own, and prints a table; also for

@@ -7,10 +7,9 @@ import re
 from typing import Any, NamedTuple
 
 from ..mistakes.nearness import nearest
-from ..mistakes.verbs import Wrong
 from .folder import Refused
 from .plans import LIMIT, Machine
-from .texts import bytes_meant
+from .values import PIECE, Unfit, bytes_of, number_in
 
 # The file of an exercise that is a folder, and how many bytes it may have.
 FILE, MOST_BYTES = "exercise.txt", 1 << 20
@@ -34,10 +33,6 @@ DONE = {
 }
 WORDS = (*HEAD, "steps", "before", "test", *OF_TEST, *DONE)
 STATES = ("booting", "running", "idle", "halted")
-# What values begin with, each with the numbers that may follow, and as how many bytes each is sent.
-NUMBERS = {"byte": (range(-128, 256), 1), "word": (range(-(1 << 31), 1 << 32), 4)}
-VALUES = 'values are "text", byte 1 2, word 1 -2 or hex 0a0b'
-PIECE = re.compile(r'"(?:[^"\\]|\\.)*"|\S+')
 
 
 def is_own(name: str) -> bool:
@@ -83,51 +78,6 @@ class Exercise(NamedTuple):
 
     def points(self) -> int:
         return sum(it.points for it in self.tests)
-
-
-class Unfit(Exception):
-    """What is wrong with a line."""
-
-
-def number_in(word: str, among: range, what: str) -> int:
-    """A number: decimal digits, or hexadecimal ones behind #."""
-    if not re.fullmatch(r"-?[0-9]{1,20}|#[0-9a-fA-F]{1,8}", word):
-        raise Unfit(f"{word!r} is no number where {what} is wanted")
-    number = int(word[1:], 16) if word.startswith("#") else int(word)
-    if number not in among:
-        raise Unfit(f"{what} is {among[0]} to {among[-1]}, and not {word}")
-    return number
-
-
-def bytes_of(pieces: list[str]) -> bytes:
-    """The bytes that values are."""
-    made, at = b"", 0
-    while at < len(pieces):
-        word = pieces[at]
-        at += 1
-        if word.startswith('"'):
-            try:
-                made += bytes_meant(word)
-            except Wrong as wrong:
-                raise Unfit(str(wrong).partition(" Try: ")[0].rstrip(".")) from None
-        elif word == "hex":
-            if at == len(pieces) or not re.fullmatch(r"([0-9a-fA-F]{2})+", pieces[at]):
-                raise Unfit("hex wants an even number of hexadecimal digits after it, such as hex 0a0b")
-            made += bytes.fromhex(pieces[at])
-            at += 1
-        elif word in NUMBERS:
-            among, size = NUMBERS[word]
-            begun = at
-            while at < len(pieces) and re.match(r"[-#0-9]", pieces[at]):
-                made += (number_in(pieces[at], among, f"a {word}") % (1 << 8 * size)).to_bytes(size, "little")
-                at += 1
-            if at == begun:
-                raise Unfit(f"{word} wants numbers after it, such as {word} 1 2")
-        else:
-            raise Unfit(f"{word!r} is no value: {VALUES}")
-    if not made:
-        raise Unfit(f"values are missing: {VALUES}")
-    return made
 
 
 class Reader:

@@ -5,7 +5,7 @@ from __future__ import annotations
 import argparse
 import contextlib
 import os
-import shutil
+import re
 import signal
 import tarfile
 from collections.abc import Iterator
@@ -14,7 +14,7 @@ from typing import IO, TYPE_CHECKING
 from .changing import changing
 from .coming import REMOVED
 from .escapes import escaped
-from .folder import CLASS, PLAN, Refused, is_locked
+from .folder import CLASS, LOG, OWN_FILE, PLAN, Refused, is_locked, new_file
 from .records import PIECE, records_of
 from .sheets import count
 from .supervising import tell
@@ -23,7 +23,9 @@ from .upkeep import Stop, all_done
 if TYPE_CHECKING:
     from .changing import Change
 
-ENDING, OWN = ".tar.xz", 0o600
+ENDING = ".tar.xz"
+# What `class`, `serve` and `live` make for themselves, and that is nobody's work.
+OWN = re.compile(r"^(class\.)?lock$|\.sock$")
 
 
 def entries_of(folder: str) -> list[str]:
@@ -47,7 +49,7 @@ def paths_of(change: Change) -> Iterator[str]:
             yield from (os.path.join(course, folder, it) for it in entries_of(os.path.join(course, folder)))
     for farm in dict.fromkeys(farm for _, farm in users):
         yield farm
-        yield from (it for name in ("plan.toml", PLAN) if os.path.exists(it := os.path.join(farm, name)))
+        yield from (it for name in ("plan.toml", PLAN, LOG) if os.path.exists(it := os.path.join(farm, name)))
         records = os.path.join(farm, "records")
         if os.path.isdir(records):
             yield records
@@ -75,8 +77,8 @@ def is_same(archive: tarfile.TarFile, path: str, name: str) -> bool:
                 return True
 
 
-def write(change: Change, file: IO[bytes]) -> None:
-    """Writes the archive, and reads it again."""
+def write(change: Change, file: IO[bytes]) -> list[str]:
+    """Writes the archive, and reads it again. What it has."""
     top = os.path.dirname(change.course)
     names = {path: os.path.relpath(path, top) for path in paths_of(change)}
     with tarfile.open(fileobj=file, mode="w:xz") as archive:
@@ -88,6 +90,19 @@ def write(change: Change, file: IO[bytes]) -> None:
             if not os.path.isdir(path) and not is_same(archive, path, name):
                 raise Refused(f"{path} isn't in the archive as it is, so nothing is removed")
     os.fsync(file.fileno())
+    return [*names]
+
+
+def without(course: str, paths: list[str]) -> list[str]:
+    """Removes what the archive has, and the locks and sockets, which have nothing in them; the files that stay."""
+    folders = [it for it in paths if os.path.isdir(it)]
+    more = [os.path.join(at, it) for at in folders for it in os.listdir(at) if OWN.search(it)]
+    for path in {*paths, *more} - {*folders}:
+        os.unlink(path)
+    for folder in reversed(folders):
+        with contextlib.suppress(OSError):
+            os.rmdir(folder)
+    return sorted(os.path.join(at, it) for at, _, names in os.walk(course) for it in names)
 
 
 def check_place(change: Change, path: str) -> None:
@@ -121,7 +136,9 @@ def finish(words: list[str]) -> int:
         description="Stops a class, and puts all that its students did into one archive.",
     )
     parser.add_argument(
-        "--remove", action="store_true", help="removes the folder of the class when the archive is whole"
+        "--remove",
+        action="store_true",
+        help="removes from the folder of the class what the archive has, when that is whole",
     )
     parser.add_argument("DIR", help="the folder of the class")
     parser.add_argument("ARCHIVE", nargs="?", help=f"the archive, DIR{ENDING} unless given")
@@ -131,8 +148,8 @@ def finish(words: list[str]) -> int:
         check_place(change, path)
         up = stop_all(change)
         try:
-            with open(os.open(f"{path}.new", os.O_RDWR | os.O_CREAT | os.O_TRUNC, OWN), "w+b") as file:
-                write(change, file)
+            with open(new_file(f"{path}.new", OWN_FILE), "w+b") as file:
+                paths = write(change, file)
             os.rename(f"{path}.new", path)
         except (OSError, Refused) as error:
             change.go_back(up)
@@ -142,9 +159,11 @@ def finish(words: list[str]) -> int:
                 os.unlink(f"{path}.new")
         users = users_of(change)
         records = sum(len(records_of(os.path.join(farm, "records"), name)) for name, farm in users)
+        left: list[str] = []
         if it.remove:
             tell(change.course, signal.SIGTERM)
-            shutil.rmtree(change.course)
+            left = without(change.course, paths)
+    print("".join(f"note: {escaped(path)} stays: the archive hasn't it\n" for path in left), end="")
     gone = f", {len(change.kept.removed)} of them removed" if change.kept.removed else ""
     print(
         escaped(

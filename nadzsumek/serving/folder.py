@@ -29,13 +29,17 @@ OPERATOR = "operator"
 PLAN = "plan"
 # What is kept of a class, in the folder above those of its farms.
 CLASS = "class.json"
+# What a `class` locks that changes a class, or starts and stops its farms. No other account can open it.
+CLASS_LOCK = "class.lock"
+# What the `serve` of a farm of a class says, in the folder of the farm.
+LOG = "serve.log"
 # A lock of a whole file for one process alone, as `fcntl` reads and writes it: its kind, from where its bytes are counted,
 # its first byte, how many bytes there are (0: all), and the number of the process.
 LOCK = struct.Struct("@hhqqi4x")
 # How long a folder is waited for that another process has, as it does while it ends.
 LOCK_SECONDS = 1
-# The modes of a folder that `serve` makes, of the plan's copy, and of what is for its own account alone.
-FOLDER_MODE, COPY_MODE, OWN_MODE = 0o755, 0o644, 0o700
+# The modes of a folder that `serve` makes, of the plan's copy, and of folders and files for its own account alone.
+FOLDER_MODE, COPY_MODE, OWN_MODE, OWN_FILE = 0o755, 0o644, 0o700, 0o600
 OTHERS_WRITE = 0o022
 # As many bytes as the path of a socket may have.
 MOST_PATH = 107
@@ -159,15 +163,28 @@ def holder(folder: str) -> int | None:
             f"ask the account that started the farm there"
         ) from None
     try:
-        kind, *_, number = LOCK.unpack(fcntl.fcntl(file, fcntl.F_GETLK, LOCK.pack(fcntl.F_WRLCK, os.SEEK_SET, 0, 0, 0)))
-        return None if kind == fcntl.F_UNLCK else number
+        return locker(file)
     finally:
         os.close(file)
+
+
+def locker(file: int) -> int | None:
+    """The number of another process that has locked an open file; none if there is none."""
+    kind, *_, number = LOCK.unpack(fcntl.fcntl(file, fcntl.F_GETLK, LOCK.pack(fcntl.F_WRLCK, os.SEEK_SET, 0, 0, 0)))
+    return None if kind == fcntl.F_UNLCK else number
 
 
 def is_locked(folder: str) -> bool:
     """Whether a `serve` has the folder at present."""
     return holder(folder) is not None
+
+
+def was_stopped(folder: str) -> bool:
+    """Whether the last `serve` of a folder ended since it was stopped, or since its folder was removed."""
+    try:
+        return os.path.getsize(os.path.join(folder, "lock")) == 0
+    except FileNotFoundError:
+        return True
 
 
 def made(path: str, mode: int) -> list[str]:
@@ -190,11 +207,51 @@ def check_own(path: str) -> None:
         raise Refused(f"{path} is no folder: choose another")
     if it.st_uid != os.geteuid():
         raise Refused(
-            f"{path} belongs to the account {account_name(it.st_uid)}, and this is {account_name(os.geteuid())}: start "
-            f"serve as that account, or choose another folder"
+            f"{path} belongs to the account {account_name(it.st_uid)}, and this is {account_name(os.geteuid())}: do "
+            f"this as that account, or choose another folder"
         )
     if it.st_mode & OTHERS_WRITE:
         raise Refused(f"other accounts may write in {path}: chmod go-w {path} forbids it, or choose another folder")
+
+
+def check_own_file(path: str) -> None:
+    """Refuses a file that is a link or another account's, or that others may write: it isn't what this account wrote."""
+    it = os.lstat(path)
+    if not stat.S_ISREG(it.st_mode):
+        raise Refused(f"{path} is no file of its own: put a copy of the file in its place")
+    if it.st_uid != os.geteuid():
+        raise Refused(
+            f"{path} belongs to the account {account_name(it.st_uid)}, and this is {account_name(os.geteuid())}: do "
+            f"this as that account"
+        )
+    if it.st_mode & OTHERS_WRITE:
+        raise Refused(f"other accounts may write {path}: look at what it says, and then chmod go-w {path} forbids it")
+
+
+def own_plan(farm: str) -> str:
+    """The path of the plan of a farm of a class, which nobody else can have written."""
+    path = os.path.join(farm, "plan.toml")
+    check_own(farm)
+    check_own_file(path)
+    return path
+
+
+def new_file(path: str, mode: int | None) -> int:
+    """A new file that is open to be written and read, in place of what was there. No link is followed. Without a mode it has
+    the one that is usual."""
+    with contextlib.suppress(FileNotFoundError):
+        os.unlink(path)
+    file = os.open(path, os.O_RDWR | os.O_CREAT | os.O_EXCL | os.O_NOFOLLOW, 0o666 if mode is None else OWN_FILE)
+    if mode is not None:
+        os.fchmod(file, mode)
+    return file
+
+
+def put_whole(path: str, content: bytes, mode: int | None) -> None:
+    """Writes a file anew. An earlier one is there until the new one is whole."""
+    with open(new_file(f"{path}.new", mode), "wb") as it:
+        it.write(content)
+    os.replace(f"{path}.new", path)
 
 
 def sync(path: str) -> None:
@@ -273,6 +330,10 @@ class Folder:
         """Whether somebody has removed the folder, with the file of the lock. A folder that is moved has it still."""
         return os.fstat(self.file).st_nlink == 0
 
+    def mark_stopped(self) -> None:
+        """Lets who looks at the lock's file see that this process ends since it was stopped."""
+        os.ftruncate(self.file, 0)
+
     def plan_to_run(self, given: str) -> str:
         """The path of the plan that the farm runs: at its first start a copy of the one that is given, and then always this
         copy. A plan that says something else is refused."""
@@ -281,6 +342,8 @@ class Folder:
             kept = None if os.path.islink(self.plan) else contents(self.plan)
         except FileNotFoundError:
             kept = None
+        if kept is not None:
+            check_own_file(self.plan)
         self.is_first = kept is None
         if kept is not None and meaning(kept) != meaning(plan):
             raise Refused(
@@ -291,10 +354,7 @@ class Folder:
         if not self.is_first:
             return self.plan
         path = f"{self.plan}.new"
-        with contextlib.suppress(FileNotFoundError):
-            os.unlink(path)
-        with open(os.open(path, os.O_WRONLY | os.O_CREAT | os.O_EXCL, COPY_MODE), "wb") as it:
-            os.fchmod(it.fileno(), COPY_MODE)
+        with open(new_file(path, COPY_MODE), "wb") as it:
             it.write(plan)
             os.fsync(it.fileno())
         return path

@@ -1,4 +1,6 @@
-"""The `serve` that has a farm's folder, and how it is ended by a signal."""
+"""The `serve` that has a farm's folder and how it is ended by a signal, and a `live` that is left without one."""
+
+import contextlib
 import os
 import signal
 
@@ -39,3 +41,21 @@ def end_serve(folder: str) -> bool:
         return False
     finally:
         os.close(process)
+
+
+def has_open(number: int, path: str) -> bool:
+    """Whether a process has a file open, as far as this account can see it."""
+    with contextlib.suppress(OSError):
+        for it in os.listdir(f"/proc/{number}/fd"):
+            with contextlib.suppress(OSError):
+                if os.readlink(f"/proc/{number}/fd/{it}") == path:
+                    return True
+    return False
+
+
+def live_at(records: str) -> int | None:
+    """The number of the process that has a folder of records; none if there is none, or if this account can't see it. As long
+    as a `live` has records, it has the file of their lock open."""
+    path = os.path.realpath(os.path.join(records, "lock"))
+    numbers = (int(it) for it in os.listdir("/proc") if it.isdecimal())
+    return next((it for it in numbers if it != os.getpid() and has_open(it, path)), None)

@@ -8,7 +8,7 @@ import os
 import shlex
 from typing import Any, NamedTuple
 
-from .folder import CLASS, COPY_MODE, OPERATOR, Refused
+from .folder import CLASS, COPY_MODE, OPERATOR, Refused, put_whole
 from .plans import Machine, user_name
 from .rooms import RECORD_ROOM, ROOM, bytes_of
 
@@ -51,18 +51,9 @@ class Kept(NamedTuple):
         return next((farm for farm, names in self.farms.items() if user in names), None)
 
 
-def save(path: str, text: str) -> None:
-    with open(path, "w", encoding="utf-8") as it:
-        it.write(text)
-
-
 def keep(folder: str, kept: Kept) -> None:
-    """Writes down what runs. An earlier file is there until the new one is whole."""
-    path = os.path.join(folder, CLASS)
-    save(f"{path}.new", kept.text())
-    # a terminal reads in it in which farm its user is
-    os.chmod(f"{path}.new", COPY_MODE)
-    os.replace(f"{path}.new", path)
+    """Writes down what runs. A terminal reads in it in which farm its user is."""
+    put_whole(os.path.join(folder, CLASS), kept.text().encode(), COPY_MODE)
 
 
 def read(folder: str, kept: dict[str, Any]) -> Kept:

@@ -1,8 +1,10 @@
-"""What a terminal finds before it sends a program: whether the node that its host is joined with waits for a boot. It asks by lines
-that are no events, so that nothing is recorded of it; only a node that computes is looked at, which changes nothing either."""
+"""What a terminal finds before it sends a program or bytes: whether the host is joined, whether a byte of it was lost, and whether the
+node waits for a boot. It asks by lines that are no events, so that nothing is recorded of it; only a node that computes is looked
+at, which changes nothing either."""
 
 from __future__ import annotations
 
+import contextlib
 import re
 from collections.abc import Callable
 from typing import TYPE_CHECKING, NamedTuple
@@ -41,6 +43,10 @@ STUCK = (
     "Link {link} holds a byte that nobody will take",
     "link {link} of node {node} has neither the byte nor an acknowledge of it",
 )
+# What it says of a host whose byte, or the acknowledge of it, went nowhere: the host sends nothing more, whatever is joined then.
+LOST = r"Of host {host} a byte isn't acknowledged yet\.\n.*(?: was lost in event | has neither the byte nor an acknowledge )"
+# The verbs before which it is looked, and those whose answers may want what was found.
+LOOKING, COLLECTING = ("load", "send", "write"), ("collect", "text")
 UNCHECKED = "connect --unchecked sends it even so"
 
 
@@ -52,6 +58,7 @@ class Hindered(Wrong):
 
     def __init__(self, why: str, lines: list[str] | tuple[()] = (), advice: str | None = None) -> None:
         self.lines, self.why = tuple(lines), why
+        self.is_lost = self.lines[:1] == ("restart",)
         self.advice = advice or f"Type {' and then '.join(self.lines)} first"
         super().__init__(f"{why}. {self.advice}, or {UNCHECKED}" if lines or advice else why)
 
@@ -101,6 +108,49 @@ def check_load(folder: str, name: str, wiring: Wiring | None, host: int, file: s
         check_host(wiring, None, host, file)
 
 
+def check_line(folder: str, name: str, wiring: Wiring | None, first: str, words: list[str]) -> None:
+    """Refuses a line of one of the verbs before which it is looked, if what it sends would be lost."""
+    if first == "load":
+        check_load(folder, name, wiring, int(words[0]), words[1])
+    elif wiring is not None and int(words[0]) in wiring.hosts:
+        with contextlib.suppress(OSError, Refused), Quiet(folder, name) as quiet:
+            check_sending(wiring, int(words[0]), quiet.ask)
+
+
+def check_sending(wiring: Wiring, host: int, ask: Callable[[str], list[str]]) -> None:
+    """Refuses bytes of a host that is joined with nothing, or that sends nothing more."""
+    drivers = drivers_in(ask("ports")[0])
+    if drivers is None:
+        return
+    if wiring.hosts[host] not in drivers.values():
+        raise unjoined(wiring, host)
+    if ask("rest")[0] == "rest quiet":
+        for node, _, _ in fed_by(wiring, drivers, host):
+            check_lost(wiring, host, node, ask(f"why {node}"))
+
+
+def check_lost(wiring: Wiring, host: int, node: int, answers: list[str]) -> None:
+    """Refuses bytes of a host of which one was lost, by what `why` says of the node that it is joined with."""
+    if re.search(LOST.format(host=host), "\n".join(answers)):
+        raise Hindered(
+            f"a byte of host {host} was lost before, so the host sends nothing more",
+            ["restart", wiring.join(node, host)],
+            "Type restart, and join again before anything is sent",
+        )
+
+
+def remark_on(folder: str, name: str, wiring: Wiring | None, answer: str) -> str | None:
+    """What is said of a `collect` to which no byte has come, if a byte of its host was lost."""
+    empty = re.fullmatch(r"collect (\d+) -", answer)
+    if not empty:
+        return None
+    try:
+        check_line(folder, name, wiring, "send", [empty[1]])
+    except Hindered as why:
+        return f"  ({why.why}. {why.advice})" if why.is_lost else None
+    return None
+
+
 def fed_by(wiring: Wiring, drivers: dict[int, int | None] | None, host: int) -> list[tuple[int, int, int]]:
     """The links that get what a host sends: node, link and port."""
     return [
@@ -130,17 +180,21 @@ def check_host(wiring: Wiring, drivers: dict[int, int | None] | None, host: int,
     )
 
 
+def unjoined(wiring: Wiring, host: int) -> Hindered:
+    """That a host is joined with no node, and what joins it."""
+    why = f"host {host} is joined with no node, so all bytes would be lost"
+    joins = [wiring.join(node, host) for node in range(len(wiring.nodes))]
+    if len(joins) == 1:
+        return Hindered(why, joins)
+    each = ", ".join(f"{line} joins it with node {node}" for node, line in enumerate(joins))
+    return Hindered(why, advice=f"Join it first: {each}")
+
+
 def link_of(wiring: Wiring, drivers: dict[int, int | None], host: int) -> tuple[int, int]:
     """The node and the link that a host is joined with, both ways and with no other."""
     fed, port = fed_by(wiring, drivers, host), wiring.hosts[host]
     if not fed:
-        joins = [wiring.join(node, host) for node in range(len(wiring.nodes))]
-        if len(joins) == 1:
-            raise Hindered(f"host {host} is joined with no node, so all bytes would be lost", joins)
-        each = ", ".join(f"{line} joins it with node {node}" for node, line in enumerate(joins))
-        raise Hindered(
-            f"host {host} is joined with no node, so all bytes would be lost", advice=f"Join it first: {each}"
-        )
+        raise unjoined(wiring, host)
     nodes = sorted({node for node, _, _ in fed})
     if len(fed) > 1:
         away = ", ".join(f"config 05{at:02x} takes it away from node {node}" for node, _, at in fed)
@@ -167,6 +221,7 @@ def check_node(wiring: Wiring, host: int, node: int, link: int, ask: Callable[[s
             ["restart", wiring.join(node, host)],
             "Type restart, and join again",
         )
+    check_lost(wiring, host, node, answers)
     state = state_of(node, answers, ask)
     if state:
         raise Hindered(f"node {node} {state}, and takes no boot before it is reset", [f"reset {node}"])

@@ -4,20 +4,21 @@ what to try, and `live` decides by itself."""
 from __future__ import annotations
 
 import os
+import re
 import subprocess
 from typing import TYPE_CHECKING
 
-from ..mistakes.elsewhere import meant
+from ..mistakes.elsewhere import BY_WORD, meant
+from ..mistakes.nearness import nearest
 from ..mistakes.verbs import ALIASES, ALL, FILE, OPERATORS, SENTENCE, TEXT, USERS, Wrong, check, find, with_ports
 from .folder import EXAMPLES, OPERATOR, Refused, build, program
+from .programs import OCCAM, near_file
 from .texts import in_quotes
+from .values import numeric_bytes
 
 if TYPE_CHECKING:
     from .ports import Ports
     from ..mistakes.verbs import Verb
-
-# How the name of a file ends that has a program in occam.
-OCCAM = ".occ"
 
 
 def table_of(name: str, ports: Ports | None = None) -> dict[str, Verb]:
@@ -37,6 +38,9 @@ def split(name: str, line: str, ports: Ports | None = None) -> tuple[str, Verb, 
             f"{first} is a verb of {'users: connect as one of them' if name == OPERATOR else 'the operator'}. "
             f"{meant(first, table) or 'Try: help'}"
         )
+    if len(words) > 1 and first not in table and BY_WORD.get(first.lower()) == "load" and "load" in table:
+        load = load_of(line.split(None, 1)[1].strip(), ports)
+        raise Wrong(f"there is no verb {first!r}. load {table['load'].meaning}. Try: {load}")
     verb = find(table, first)
     most = len(verb.kinds)
     if verb.kinds and verb.kinds[-1] in (TEXT, FILE, SENTENCE):
@@ -49,12 +53,23 @@ def lines_of(name: str, line: str, ports: Ports | None = None) -> list[str]:
     first, verb, words = split(name, line, ports)
     if first in ALL:
         return []
+    if first == "load" and words and not words[0].isdigit():
+        raise Wrong(f"load wants the number of a host before the file. Try: {load_of(' '.join(words), ports)}")
     check(first, verb, words)
     if first == "load":
         return loading(name, words[0], words[1])
+    numbers = numeric_bytes(words[1]) if first == "send" else None
+    if numbers:
+        return [f"write {words[0]} {numbers.hex()}"]
     if first == "send":
         words[1] = in_quotes(words[1])
     return [" ".join(([f"!{first}"] if name == OPERATOR else [first]) + words)]
+
+
+def load_of(words: str, ports: Ports | None) -> str:
+    """The line that loads what these words name, by the host that they begin with or else by the user's first."""
+    has_host = re.match(r"\d+\s+\S", words)
+    return f"load {words}" if has_host else f"load {ports.host if ports else 0} {words}"
 
 
 def examples() -> dict[str, str]:
@@ -68,8 +83,8 @@ def examples() -> dict[str, str]:
     }
 
 
-def found(file: str) -> str:
-    """The path of a program's file: as it is said, with quotes round it or without, or one of the examples, whose ending may be
+def found(file: str, host: str) -> str:
+    """The path of a program's file that is loaded by this host: as it is said, with quotes round it or without, or one of the examples, whose ending may be
     left out."""
     name = file[1:-1] if len(file) > 2 and file[0] in "'\"" and file[-1] == file[0] else file
     there = examples()
@@ -77,7 +92,10 @@ def found(file: str) -> str:
         if os.path.isfile(path):
             return path
     if os.path.isdir(os.path.expanduser(name)):
-        raise Wrong(f"{name} is a folder, and load wants a file. Try: load 0 hello.s")
+        raise Wrong(f"{name} is a folder, and load wants a file. Try: load {host} hello.s")
+    near = near_file(name) or nearest(name, there)
+    if near:
+        raise Wrong(f"there is no file {name} in {os.getcwd()}. Is it {near}? Try: load {host} {near}")
     raise Wrong(
         f"there is no file {name} in {os.getcwd()}" + (f". Examples are {', '.join(sorted(there))}" if there else "")
     )
@@ -95,7 +113,7 @@ def translated(path: str, *words: str) -> tuple[list[str] | None, str]:
 
 def loading(name: str, host: str, file: str) -> list[str]:
     """The lines that boot a program: its code, or pokes and a jump if it is too long for a boot."""
-    path = found(file)
+    path = found(file, host)
     try:
         build("connect", "lab")
         code, told = translated(path)

@@ -5,7 +5,7 @@ from typing import NamedTuple
 
 import tomllib
 
-from .folder import PLAN, Refused, contents, meaning
+from .folder import PLAN, Refused, contents, meaning, own_plan
 from .plans import DOMAINS, PORTS, VERSION, Machine
 
 # Where the part of a domain begins.
@@ -39,7 +39,7 @@ def text_of(parts: list[Part]) -> str:
 
 def parts_of(farm: str, names: list[str]) -> list[Part]:
     """The parts of a farm's plan, which must have just these users; and the plan that it runs must be that of the class."""
-    path, kept = os.path.join(farm, "plan.toml"), os.path.join(farm, PLAN)
+    path, kept = own_plan(farm), os.path.join(farm, PLAN)
     plan = contents(path)
     try:
         _, *texts = DOMAIN.split(plan.decode())

@@ -4,12 +4,15 @@ from __future__ import annotations
 
 import asyncio
 import collections
+import ctypes
+import os
 import re
 import signal
 import time
 from collections.abc import Callable
 
 from .folder import Refused
+from .holders import live_at
 from .lines import Lines
 
 # What is handed each line of a standard error.
@@ -17,7 +20,9 @@ Tell = Callable[[str], object]
 # If `live` ends more often than so many times in so many seconds, it isn't started again.
 MOST_STARTS = 5
 WITHIN = 60
-# How long it is waited for a `live` of a `serve` that was killed.
+# By this call of Linux a process says by which signal it is to end when its parent has ended.
+PRCTL, END_WITH_PARENT = ctypes.CDLL(None).prctl, 1
+# How long it is waited for another `live` at the records.
 LOCK_SECONDS = 60
 # The statuses of docs/LIVE.md that the program's words, the plan and the records have, and what it says of records that
 # another has.
@@ -41,6 +46,14 @@ def how(status: int) -> str:
     return f"with status {status}"
 
 
+def end_with(parent: int) -> None:
+    """Sees that this process, which is to become `live`, ends when `serve` does, however that ends."""
+    PRCTL(END_WITH_PARENT, signal.SIGKILL)
+    if os.getppid() != parent:
+        # serve has ended before
+        os._exit(1)
+
+
 class Live:
     """One run of `live`. Its lines are counted as it counts them. `tell` is handed each line of its standard error."""
 
@@ -55,13 +68,19 @@ class Live:
 
     @classmethod
     async def start(cls, words: list[str], tell: Tell) -> Live:
-        """Starts it in a group of its own, so that a signal of the terminal reaches `serve` alone. As Python does, it passes
-        over the signals by which a write to a closed pipe or past a limit of files would end it: the write fails then, and
-        that is told."""
-        pipe = asyncio.subprocess.PIPE
+        """Starts it in a group of its own, so that a signal of the terminal reaches `serve` alone. It ends with `serve`, also
+        while it does records again and reads no input. As Python does, it passes over the signals by which a write to a
+        closed pipe or past a limit of files would end it: the write fails then, and that is told."""
+        pipe, serve = asyncio.subprocess.PIPE, os.getpid()
         return cls(
             await asyncio.create_subprocess_exec(
-                *words, stdin=pipe, stdout=pipe, stderr=pipe, start_new_session=True, restore_signals=False
+                *words,
+                stdin=pipe,
+                stdout=pipe,
+                stderr=pipe,
+                start_new_session=True,
+                restore_signals=False,
+                preexec_fn=lambda: end_with(serve),
             ),
             tell,
         )
@@ -146,7 +165,7 @@ class Starts:
 
 async def begin(words: list[str], records: str, begun: Callable[[Live], object], tell: Tell) -> tuple[Live, list[str]]:
     """A run of `live` that answers, and its users. `begun` is told of each process, and `tell` of each line of its standard
-    error. While another `live` has the records, as that of a `serve` that was killed has for a moment, it is waited."""
+    error. While another `live` has the records, it is waited."""
     last, has_told = time.monotonic() + LOCK_SECONDS, False
     while True:
         live = await Live.start(words, lambda text: None if TAKEN in text else tell(text))
@@ -157,16 +176,13 @@ async def begin(words: list[str], records: str, begun: Callable[[Live], object],
         status = await live.end()
         if status != FILES or not any(TAKEN in text for text in live.errors):
             raise Ended(status, live.errors)
+        number = live_at(records)
+        whose = f"another live (process {number})" if number else "another live"
         if time.monotonic() > last:
-            raise Refused(
-                f"another live has had {records} for {LOCK_SECONDS} seconds: end it (fuser {records}/lock tells its "
-                f"number), and start serve again"
-            )
+            raise Refused(f"{whose} has had {records} for {LOCK_SECONDS} seconds: end it, and start serve again")
         if not has_told:
             has_told = True
-            tell(
-                f"serve: another live still has {records}. It is waited until that ends, {LOCK_SECONDS} seconds at most"
-            )
+            tell(f"serve: {whose} still has {records}. It is waited until that ends, {LOCK_SECONDS} seconds at most")
         await asyncio.sleep(0.2)
 
 

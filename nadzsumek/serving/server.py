@@ -50,6 +50,8 @@ PATIENCE, WATCHES = 30, 3
 LOOK_SECONDS = 2
 # How long `lab plan` may take.
 LAB_SECONDS = 10
+# The status after a stop if `live` ended with a fault, as it does if a record isn't whole.
+STOPPED_BADLY = 3
 # The status of the lab if a plan is refused.
 REFUSED_PLAN = 3
 # So many connections wait before a socket.
@@ -337,7 +339,9 @@ class Server:
                 speaker.forget()
             if status == 0 or self.is_stopping:
                 self.tell_all("the farm is stopped")
-                return 0 if status <= 0 else 1
+                if status > 0:
+                    self.reports.say(f"serve: live ended {running.how(status)} at the stop: see above")
+                return 0 if status <= 0 else STOPPED_BADLY
             self.tell_all(f"the farm ended {running.how(status)} and is started again")
             await self.go_on(running.how(status))
             self.tell_all("the farm goes on")
@@ -395,6 +399,8 @@ class Server:
     async def close(self) -> None:
         """Takes the sockets away and lets the clients read what they were told."""
         self.kill()
+        if self.is_stopping:
+            self.folder.mark_stopped()
         self.folder.remove_new_plan()
         clients = [client for speaker in self.speakers.values() for client in speaker.clients]
         closed = self.close_sockets()

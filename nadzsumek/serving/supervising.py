@@ -11,12 +11,14 @@ import sys
 import time
 
 from .escapes import escaped
-from .folder import Refused, holder, is_locked, program
+from .folder import Refused, holder, is_locked, own_plan, program, was_stopped
 from .kept import Kept, class_in
 from .upkeep import Start, is_up
 
 # What starts all farms that are off, and what starts those whose plan has changed since they were started, and new ones.
 ALL, CHANGED = signal.SIGUSR1, signal.SIGUSR2
+# What lets farms be off that are to be started again. A process that doesn't know it passes over it.
+LEAVE_OFF = signal.SIGURG
 STOPPING = (signal.SIGTERM, signal.SIGINT, signal.SIGHUP)
 # After how many seconds a farm is started again that didn't end by a stop.
 AGAIN_SECONDS = 60
@@ -88,9 +90,11 @@ class Supervisor:
         self.asked: set[signal.Signals] = set()
         # the farms that are to be started as soon as they have ended
         self.pending: set[str] = set()
+        # those that had just been started, and are to be off
+        self.leaving: set[str] = set()
         self.wakes, self.waking = os.pipe2(os.O_NONBLOCK | os.O_CLOEXEC)
         # before another process can see whom it may tell
-        for it in (ALL, CHANGED, signal.SIGCHLD, *STOPPING):
+        for it in (ALL, CHANGED, LEAVE_OFF, signal.SIGCHLD, *STOPPING):
             signal.signal(it, lambda *_: None)
         signal.set_wakeup_fd(self.waking, warn_on_full_buffer=False)
         self.lock()
@@ -124,8 +128,9 @@ class Supervisor:
         if is_locked(farm):
             return
         self.pending.discard(farm)
+        self.leaving.discard(farm)
         self.plans[farm], self.begun[farm] = self.plan(farm), time.monotonic()
-        call = [program("serve"), *self.more, *kept.rights, *kept.rooms.words(), os.path.join(farm, "plan.toml"), farm]
+        call = [program("serve"), *self.more, *kept.rights, *kept.rooms.words(), own_plan(farm), farm]
         # pylint: disable-next=consider-using-with
         self.children[farm] = subprocess.Popen(call, stdin=subprocess.DEVNULL, start_new_session=True)
 
@@ -138,15 +143,25 @@ class Supervisor:
             del self.children[farm]
             if farm in self.pending:
                 self.due[farm] = time.monotonic()
-            elif status != 0 and not self.asked & {*STOPPING}:
+            elif farm not in self.leaving and not was_stopped(farm) and not self.asked & {*STOPPING}:
                 self.say(
                     f"{os.path.basename(farm)} ended with status {status}, and is started again in {AGAIN_SECONDS} seconds"
                 )
                 self.due[farm] = time.monotonic() + AGAIN_SECONDS
 
+    def leave_off(self) -> None:
+        """Starts no farm again that is off, and ends those that nobody can ask yet to stop."""
+        self.due, self.pending = {}, set()
+        for farm, process in self.children.items():
+            if not is_locked(farm):
+                self.leaving.add(farm)
+                process.terminate()
+
     def go_on(self) -> None:
         """Starts what is to be started now."""
         kept, asked, self.asked = class_in(self.course), self.asked, set()
+        if LEAVE_OFF in asked:
+            self.leave_off()
         self.due = {farm: when for farm, when in self.due.items() if farm in kept.farms}
         for farm in kept.farms:
             is_due = self.due.get(farm, float("inf")) <= time.monotonic()

@@ -21,7 +21,7 @@ from .connections import NO_FARM, REFUSED, opened
 from .escapes import escaped, set_errors
 from .folder import OPERATOR, Refused
 from .kept import place_of
-from .loads import Hindered, check_load
+from .loads import COLLECTING, LOOKING, Hindered, check_line, remark_on
 from .orders import lines_of, split, table_of
 from .ports import joins_told, ports_of, wiring_of
 from .versions import add_version
@@ -62,7 +62,7 @@ class Terminal:
         self.status, self.stops, self.is_unread = 0, False, False
         self.news, self.has_ended, self.at_prompt = threading.Condition(), False, False
         self.interrupts, self.is_sending, self.is_noticed = 0, False, threading.Event()
-        self.prompt = f"{escaped(name)}> "
+        self.prompt, self.answer = f"{escaped(name)}> ", ""
         self.reader = threading.Thread(target=self.read, daemon=True)
         self.reader.start()
 
@@ -103,6 +103,7 @@ class Terminal:
                 for text in joins_told(answer, self.wiring):
                     self.show(text)
             if due and not goes_on(answer):
+                self.answer = answer
                 self.due.remove(due)
                 if not self.is_person and refusal(due.line, answer):
                     self.status = REFUSED
@@ -133,28 +134,38 @@ class Terminal:
                 self.show(text)
         else:
             lines = lines_of(self.name, line, self.ports)
-            if first != "load" or not self.is_checked or self.may_load(int(words[0]), words[1]):
+            self.answer = ""
+            if first not in LOOKING or not self.is_checked or self.may_send(first, words):
                 self.send(lines)
+            if first in COLLECTING and self.is_checked:
+                self.remark()
         return True
 
-    def may_load(self, host: int, file: str) -> bool:
-        """Whether a program is sent: if it would boot nothing, the person is asked what to do first."""
+    def remark(self) -> None:
+        """Says why no byte has come, if that was the answer and a byte was lost."""
+        self.settle(PROMPT_SECONDS if self.is_person else FILE_SECONDS)
+        remark = remark_on(self.folder, self.name, self.wiring, self.answer)
+        if remark:
+            self.show(remark)
+
+    def may_send(self, first: str, words: list[str]) -> bool:
+        """Whether a program or bytes are sent: if they would be lost, the person is asked what to do first."""
         self.settle(FILE_SECONDS)
         try:
-            check_load(self.folder, self.name, self.wiring, host, file)
+            check_line(self.folder, self.name, self.wiring, first, words)
             return True
         except Hindered as why:
             if not self.is_person:
                 raise
             self.show(f"{why.why}.")
             if why.lines:
-                if not self.agrees(f"{', '.join(why.lines)} and then load? (y/n) "):
+                if not self.agrees(f"{', '.join(why.lines)} and then {first}? (y/n) "):
                     return False
                 for line in why.lines:
                     self.send(lines_of(self.name, line, self.ports))
-                return self.may_load(host, file)
+                return self.may_send(first, words)
             self.show(f"{why.advice}.")
-            return self.agrees("load even so? (y/n) ")
+            return self.agrees(f"{first} even so? (y/n) ")
 
     def agrees(self, question: str) -> bool:
         """Whether the person answers a question by yes."""
@@ -179,9 +190,12 @@ class Terminal:
     def wait(self) -> None:
         """Waits a little, so that the answers stand before what comes next."""
         self.settle(PROMPT_SECONDS if self.is_person else FILE_SECONDS)
-        if not self.is_person:
-            with self.news:
+        with self.news:
+            if not self.is_person:
                 self.due.clear()
+            elif self.due and not self.due[-1].is_told and not self.has_ended:
+                self.due[-1].is_told = True
+                self.show("(waiting)")
 
     def ask(self) -> str | None:
         """The next line of the person, or of the input; none at the end."""
@@ -324,7 +338,7 @@ def words_of(given: list[str]) -> argparse.Namespace:
     it.add_argument(
         "--unchecked",
         action="store_true",
-        help="load sends a program also if that would boot nothing, without a " "question or a refusal",
+        help="load, send and write send also what would be lost, without a question or a refusal",
     )
     plain = given[1:] if given[:1] == ["--"] else given
     if len(plain) > 2 and plain[1] == "--":

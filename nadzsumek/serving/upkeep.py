@@ -12,8 +12,8 @@ import time
 from collections.abc import Sequence
 
 from .escapes import escaped
-from .folder import Refused, is_locked, program
-from .holders import end_serve, serve_of
+from .folder import LOG, Refused, is_locked, own_plan, program
+from .holders import end_serve, live_at, serve_of
 from .sheets import count
 from .status import ask_operator, operators_stream
 
@@ -101,7 +101,7 @@ class Start(Work):
         super().__init__(folder, course)
         self.users, self.rights, self.starts = users, rights, 0
         self.process: subprocess.Popen[bytes] | None = None
-        self.log, self.last = os.path.join(folder, "serve.log"), self.begun
+        self.log, self.last = os.path.join(folder, LOG), self.begun
         self.size: int | None = None
         self.news = ("", 0)
 
@@ -127,12 +127,13 @@ class Start(Work):
         return f"up, {count(self.users, 'user')}"
 
     def start_serve(self) -> None:
+        plan = own_plan(self.folder)
         self.starts += 1
         self.size = os.path.getsize(self.log) if os.path.exists(self.log) else 0
         with open(self.log, "ab") as log:
             # pylint: disable-next=consider-using-with
             self.process = subprocess.Popen(
-                [program("serve"), *self.rights, os.path.join(self.folder, "plan.toml"), self.folder],
+                [program("serve"), *self.rights, plan, self.folder],
                 stdin=subprocess.DEVNULL,
                 stdout=log,
                 stderr=log,
@@ -183,13 +184,24 @@ class Stop(Work):
         self.has_signalled, self.why = False, ""
 
     def done(self) -> tuple[bool, str]:
-        if not is_locked(self.folder):
-            return True, "off"
         try:
-            return self.stopped()
+            is_well, told = self.stopped()
         finally:
             if self.stream is not None:
                 self.stream.close()
+        return self.without_live(told) if is_well else (False, told)
+
+    def without_live(self, told: str) -> tuple[bool, str]:
+        """The outcome of a farm that no `serve` has. A `live` by itself has only a moment to end."""
+        records, end = os.path.join(self.folder, "records"), time.monotonic() + LAST_SECONDS
+        while number := live_at(records):
+            if time.monotonic() > end:
+                return (
+                    False,
+                    f"no serve has it, but a live (process {number}) has its records still: kill {number} ends it",
+                )
+            time.sleep(PAUSE)
+        return True, told
 
     def stopped(self) -> tuple[bool, str]:
         """Asks it as soon as it can be asked, and waits until nobody has the folder."""

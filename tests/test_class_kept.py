@@ -1,0 +1,171 @@
+"""That nothing of a class is lost or held up by somebody's hand: by locks and files of other accounts, by processes that are killed,
+by farms that are damaged, and at its end."""
+
+import contextlib
+import fcntl
+import os
+import signal
+import stat
+import subprocess
+import sys
+import time
+from collections.abc import Iterator
+
+from nadzsumek.serving.changing import hold
+from support.courses import Course, child_of
+from support.live_lines import PLAN, SECONDS
+from support.serving_trials import Served
+from support.trials import TOP, put, text_of
+
+
+def is_gone(number: int) -> bool:
+    """Whether a process ends within some seconds."""
+    end = time.monotonic() + SECONDS
+    while os.path.exists(f"/proc/{number}") and time.monotonic() < end:
+        time.sleep(0.05)
+    return not os.path.exists(f"/proc/{number}")
+
+
+# A `class` whose supervisor starts soon again what has ended.
+SUPERVISING = """import sys
+sys.path.insert(0, {top!r})
+from nadzsumek.serving import classes, supervising
+supervising.AGAIN_SECONDS = 4
+sys.exit(classes.main(["serve", {folder!r}]))
+"""
+# A `live` that ends with the status of a record that isn't whole.
+UNWHOLE = """#!/bin/bash
+"{live}" "$@"
+exit 6
+"""
+
+
+@contextlib.contextmanager
+def supervised(it: Course) -> Iterator[str]:
+    """The process that has all farms of a class, until the end of a block; the path of what it says."""
+    path = f"{it.room.name}/said"
+    call = [sys.executable, "-B", "-c", SUPERVISING.format(top=TOP, folder=it.folder), "class"]
+    with open(path, "wb") as said, subprocess.Popen(call, env=it.env, stdout=said, stderr=said) as supervisor:
+        try:
+            yield path
+        finally:
+            supervisor.terminate()
+            try:
+                supervisor.wait(SECONDS)
+            finally:
+                supervisor.kill()
+
+
+def mode_of(path: str) -> int:
+    return stat.S_IMODE(os.stat(path).st_mode)
+
+
+def test_no_other_account_locks_a_class() -> None:
+    """Who may read the folder of a class can't hold it up. Another `class` of the same account can, and its number is said."""
+    with Course(1) as it:
+        folder = os.open(it.folder, os.O_RDONLY)
+        fcntl.flock(folder, fcntl.LOCK_EX)
+        try:
+            assert it.must("stop") == "farm-1: off\n"
+            it.must_change("add", "Ada")
+        finally:
+            os.close(folder)
+        assert mode_of(f"{it.folder}/class.lock") == 0o600
+        with hold(it.folder, fcntl.LOCK_EX):
+            done = it.call("stop", it.folder)
+        assert (done.returncode, done.stderr) == (
+            1,
+            f"class: another class is at work at {it.folder}, process {os.getpid()}: wait until it has ended\n",
+        )
+
+
+def test_no_live_is_left_by_a_serve() -> None:
+    """A `live` that reads no input, as while it does records again, ends with its `serve` too."""
+    with Served(PLAN) as it, it.held_live() as number:
+        it.process.kill()
+        it.process.wait()
+        assert is_gone(number)
+
+
+def test_a_live_that_is_left_is_named() -> None:
+    """`class stop` says which process has the records of a farm that no `serve` has."""
+    with Course(1) as it:
+        it.must("start")
+        it.must("stop")
+        with open(f"{it.folder}/farm-1/records/lock", "rb") as lock, subprocess.Popen(
+            ["sleep", "60"], stdin=lock
+        ) as other:
+            lock.close()
+            try:
+                stopped = it.call("stop", it.folder)
+            finally:
+                other.kill()
+    assert (stopped.returncode, stopped.stdout.splitlines()[-1]) == (
+        1,
+        f"farm-1: no serve has it, but a live (process {other.pid}) has its records still: kill {other.pid} ends it",
+    )
+
+
+def test_a_farm_that_was_stopped_stays_off(live: str) -> None:
+    """The process that has a class starts no farm again that was stopped: neither one whose record isn't whole, nor one that had
+    failed before."""
+    with Course(2, "--nodes", "8") as it:
+        it.env["LIVE"] = put(f"{it.room.name}/live", UNWHOLE.format(live=live))
+        os.chmod(it.env["LIVE"], 0o755)
+        with supervised(it) as said:
+            it.must("start")
+            os.kill(it.lock(2), signal.SIGKILL)
+            assert it.must("stop").splitlines()[-2:] == ["farm-1: off", "farm-2: off"]
+            time.sleep(5)
+            assert it.must("status").count(" off ") == 2
+        assert [line for line in text_of(said).splitlines() if "farm-1 ended" in line] == []
+
+
+def test_what_others_may_write_is_refused() -> None:
+    """A class takes no folder and no file in which others may write, follows no link, and makes its files so that no mask gives
+    others a right to write them."""
+    before = os.umask(0)
+    try:
+        it = Course(1)
+    finally:
+        os.umask(before)
+    with it:
+        modes = {name: mode_of(f"{it.folder}/{name}") for name in ("farm-1/plan.toml", "sheets/student-1.txt")}
+        assert modes == {"farm-1/plan.toml": 0o644, "sheets/student-1.txt": 0o600}
+        for path in ("", "/class.json", "/farm-1", "/farm-1/plan.toml"):
+            mode = mode_of(it.folder + path)
+            os.chmod(it.folder + path, mode | 0o020)
+            done = it.call("start", it.folder)
+            assert (done.returncode, "other accounts may write" in done.stdout + done.stderr) == (1, True), path
+            os.chmod(it.folder + path, mode)
+        victim = put(f"{it.room.name}/victim", "mine")
+        for path in (f"{it.folder}.tar.xz.new", f"{it.room.name}/page.new"):
+            os.symlink(victim, path)
+        assert it.call("wall", "--once", it.folder, f"{it.room.name}/page").returncode == 0
+        assert it.call("finish", it.folder).returncode == 0
+        assert (text_of(victim), os.path.getsize(f"{it.room.name}/page") > 0) == ("mine", True)
+
+
+def test_a_folder_with_links_is_refused() -> None:
+    """A class is made in no folder that leads elsewhere."""
+    with Course(1) as it:
+        os.makedirs(f"{it.room.name}/other")
+        os.symlink(f"{it.folder}/sheets", f"{it.room.name}/other/sheets")
+        done = it.call("--students", f"{it.room.name}/names.txt", "--nodes", "1", f"{it.room.name}/other")
+        assert (done.returncode, "sheets is no folder" in done.stderr) == (1, True)
+
+
+def test_what_no_archive_has_stays() -> None:
+    """`class finish --remove` removes no file that isn't in the archive, and says which stay."""
+    with Course(1) as it:
+        it.must("start")
+        kept = [f"{it.folder}/{name}" for name in ("exercises/one.txt", "names.txt", "sheets/pdf/ada.pdf")]
+        for path in kept:
+            os.makedirs(os.path.dirname(path), exist_ok=True)
+            put(path, "mine")
+        done = it.call("finish", "--remove", it.folder)
+        there = sorted(f"{at}/{name}" for at, _, names in os.walk(it.folder) for name in names)
+        notes = [line for line in done.stdout.splitlines() if line.startswith("note: ")]
+        assert (done.returncode, done.stderr, there) == (0, "", kept)
+        assert notes == [f"note: {path} stays: the archive hasn't it" for path in kept]
+        assert sorted(os.listdir(it.folder)) == ["exercises", "names.txt", "sheets"]
