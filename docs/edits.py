@@ -3,18 +3,20 @@ on which day all that were there then were last tried and refused. `tools/wrong_
 compares it. The days are in docs/tried.txt, where `tools/wrong_bodies --record CRATE..` writes them."""
 
 import re
+from collections.abc import Iterable
+from pathlib import Path
 
 HEAD = "| Crate | Wrong bodies | In the gate | All tried and refused on |"
 LINE = "|---|---|---|---|"
 
 
-def days_of(top):
+def days_of(top: Path) -> dict[str, str]:
     """The day of each crate in docs/tried.txt."""
     lines = (top / "docs/tried.txt").read_text(encoding="utf-8").splitlines()
-    return dict(line.split() for line in lines if line and not line.startswith("#"))
+    return {crate: day for crate, day in (line.split() for line in lines if line and not line.startswith("#"))}
 
 
-def write_days(top, crates, day):
+def write_days(top: Path, crates: Iterable[str], day: str) -> None:
     """Writes the day of some crates into docs/tried.txt."""
     page = top / "docs/tried.txt"
     head = [line for line in page.read_text(encoding="utf-8").splitlines() if line.startswith("#")]
@@ -22,7 +24,7 @@ def write_days(top, crates, day):
     page.write_text("\n".join([*head, *(f"{crate} {it}" for crate, it in days)]) + "\n", encoding="utf-8")
 
 
-def table_of(top):
+def table_of(top: Path) -> list[str]:
     """The lines of the table."""
     days, lines = days_of(top), [HEAD, LINE]
     for crate in sorted(it.name for it in (top / "crates").iterdir()):
@@ -34,7 +36,7 @@ def table_of(top):
     return lines
 
 
-def table_in(page):
+def table_in(page: Path) -> tuple[list[str], int]:
     """The lines of the table that a page has, and the number of the first."""
     lines = page.read_text(encoding="utf-8").split("\n")
     begun = lines.index(HEAD) if HEAD in lines else 0
@@ -42,7 +44,7 @@ def table_in(page):
     return lines[begun : begun + count], begun + 1
 
 
-def write_table(top):
+def write_table(top: Path) -> None:
     """Writes the table in EVIDENCE.md."""
     page = top / "docs/EVIDENCE.md"
     there, _ = table_in(page)

@@ -1,6 +1,6 @@
 """Man pages and what bash completes, made from what the commands print for `--help`."""
 import re
-from collections.abc import Iterator
+from collections.abc import Iterable, Iterator, Mapping
 from typing import Optional
 
 # Help begins an entry this far from the left at most; what goes on with one is further right.
@@ -62,7 +62,7 @@ def entries(text: str) -> Iterator[tuple[str, str]]:
 OF_CLONES = re.compile(r"(?<![\w/.])(?:\./(?=[a-z])|docs/(?=[\w/]+\.md))")
 
 
-def roff(text):
+def roff(text: str) -> str:
     """A text as troff reads it, with commands and pages as they are installed."""
     safe = (
         OF_CLONES.sub("", text)
@@ -76,7 +76,7 @@ def roff(text):
     return f"\\&{safe}" if safe.startswith(".") else safe
 
 
-def section_of(head, all_of):
+def section_of(head: str, all_of: Iterable[tuple[str, str]]) -> list[str]:
     """A section of a page."""
     lines = [f".SH {head}"]
     if head == "EXAMPLE":
@@ -86,15 +86,18 @@ def section_of(head, all_of):
     return lines
 
 
-def body_of(told):
+def body_of(told: Help) -> list[str]:
     """The parts of a help as lines of a page."""
-    lines = []
+    lines: list[str] = []
     for head, part in told.parts:
-        lines += [".PP", roff(part)] if head is None else section_of(head, part)
+        if isinstance(part, str):
+            lines += [".PP", roff(part)]
+        else:
+            lines += section_of(head or "", part)
     return lines
 
 
-def man_page(name, told, below, words, version, more):
+def man_page(name: str, told: Help, below: dict[str, Help], words: dict[str, str], version: str, more: str) -> str:
     """The page of a command: what it says of itself, what it says of each of its subcommands, the words of the command around
     the program, and where to read on."""
     lines = [
@@ -123,9 +126,10 @@ def man_page(name, told, below, words, version, more):
     return "".join(f"{line}\n" for line in lines)
 
 
-def options_of(entry_list):
+def options_of(entry_list: Iterable[tuple[str, str]]) -> tuple[list[str], list[str]]:
     """The options of a section, each by its longest name, and those of them that want a value."""
-    names, wanting = [], []
+    names: list[str] = []
+    wanting: list[str] = []
     for entry, _ in entry_list:
         found = re.findall(r"(?<![\w-])--?[a-z][a-z-]*", entry)
         names += found
@@ -134,6 +138,9 @@ def options_of(entry_list):
     return names, wanting
 
 
+# The words of a call, as ("lab", "why"), and its options, each with whether it wants a value.
+Call = tuple[str, ...]
+Options = dict[str, bool]
 COMPLETION = """# Completion of bash for farm, live, lab, serve, connect and class. Made by tools/commands from what they print for --help.
 
 _nadzsumek_options() {
@@ -225,10 +232,15 @@ complete -o filenames -F _nadzsumek farm live lab serve connect class
 """
 
 
-def completion(texts, words, orders, more):
+def completion(
+    texts: dict[Call, Help],
+    words: dict[str, list[str]],
+    orders: dict[str, dict[str, Options]],
+    more: dict[str, dict[str, str]],
+) -> str:
     """What bash sources: the options of each command and subcommand, those of them that want a value, and the words that may come
     first. Subcommands without a help of their own are those of `orders`, with their options."""
-    options = {}
+    options: dict[Call, Options] = {}
     for call, told in texts.items():
         names, wanting = options_of(
             [*told.section("OPTIONS"), *(more.get(call[0], {}).items() if len(call) == 1 else ())]
@@ -237,7 +249,7 @@ def completion(texts, words, orders, more):
     for name, all_of in orders.items():
         options.update({(name, word): told for word, told in all_of.items()})
 
-    def cases(rows):
+    def cases(rows: Mapping[str, Iterable[str]]) -> str:
         return "".join(
             f"    {label.replace(' ', chr(92) + ' ')}) echo '{' '.join(it)}' ;;\n" for label, it in rows.items() if it
         )
