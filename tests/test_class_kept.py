@@ -9,7 +9,7 @@ import stat
 import subprocess
 import sys
 import time
-from collections.abc import Iterator
+from collections.abc import Callable, Iterator
 
 from nadzsumek.serving.changing import hold
 from support.courses import Course, child_of
@@ -169,3 +169,33 @@ def test_what_no_archive_has_stays() -> None:
         assert (done.returncode, done.stderr, there) == (0, "", kept)
         assert notes == [f"note: {path} stays: the archive hasn't it" for path in kept]
         assert sorted(os.listdir(it.folder)) == ["exercises", "names.txt", "sheets"]
+
+
+def until(seen: Callable[[], bool]) -> bool:
+    """Whether this is so after some seconds."""
+    end = time.monotonic() + SECONDS
+    while not seen() and time.monotonic() < end:
+        time.sleep(0.1)
+    return seen()
+
+
+def test_a_damaged_farm_takes_no_other_down() -> None:
+    """The process that has a class goes on if the plan of a farm isn't there, and says so. One that is started after it was killed
+    has the farms that are up."""
+    with Course(2, "--nodes", "8") as it:
+        with supervised(it) as said:
+            it.must("start")
+            first, second = it.lock(1), it.lock(2)
+            os.rename(f"{it.folder}/farm-2/plan.toml", f"{it.folder}/plan")
+            os.kill(second, signal.SIGKILL)
+            assert until(lambda: "farm-2 can't be started" in text_of(said))
+            supervisor = int(text_of(f"{it.folder}/lock"))
+            assert (os.path.exists(f"/proc/{first}"), text_of(said).count("can't be started")) == (True, 1)
+            os.kill(supervisor, signal.SIGKILL)
+        os.rename(f"{it.folder}/plan", f"{it.folder}/farm-2/plan.toml")
+        with supervised(it) as said:
+            it.must("start")
+            assert it.lock(1) == first
+            os.kill(first, signal.SIGKILL)
+            assert until(lambda: "farm-1 has failed" in text_of(said))
+            assert until(lambda: it.lock(1) != first)
