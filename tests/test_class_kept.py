@@ -9,7 +9,7 @@ import stat
 import subprocess
 import sys
 import time
-from collections.abc import Iterator
+from collections.abc import Callable, Iterator
 
 from nadzsumek.serving.changing import hold
 from support.courses import Course, child_of
@@ -36,6 +36,12 @@ sys.exit(classes.main(["serve", {folder!r}]))
 # A `live` that ends with the status of a record that isn't whole.
 UNWHOLE = """#!/bin/bash
 "{live}" "$@"
+exit 6
+"""
+# A `live` that says of a record that it is done again, and ends by a fault before it answers.
+SAYING = """#!/bin/bash
+echo "x/bob.replay: 16 of 34 MiB are done again" >&2
+until [ -e "${0%live}go" ]; do sleep 0.1; done
 exit 6
 """
 
@@ -169,3 +175,62 @@ def test_what_no_archive_has_stays() -> None:
         assert (done.returncode, done.stderr, there) == (0, "", kept)
         assert notes == [f"note: {path} stays: the archive hasn't it" for path in kept]
         assert sorted(os.listdir(it.folder)) == ["exercises", "names.txt", "sheets"]
+
+
+def until(seen: Callable[[], bool]) -> bool:
+    """Whether this is so after some seconds."""
+    end = time.monotonic() + SECONDS
+    while not seen() and time.monotonic() < end:
+        time.sleep(0.1)
+    return seen()
+
+
+def test_a_damaged_farm_takes_no_other_down() -> None:
+    """The process that has a class goes on if the plan of a farm isn't there, and says so. One that is started after it was killed
+    has the farms that are up."""
+    with Course(2, "--nodes", "8") as it:
+        with supervised(it) as said:
+            it.must("start")
+            first, second = it.lock(1), it.lock(2)
+            os.rename(f"{it.folder}/farm-2/plan.toml", f"{it.folder}/plan")
+            os.kill(second, signal.SIGKILL)
+            assert until(lambda: "farm-2 can't be started" in text_of(said))
+            supervisor = int(text_of(f"{it.folder}/lock"))
+            assert (os.path.exists(f"/proc/{first}"), text_of(said).count("can't be started")) == (True, 1)
+            os.kill(supervisor, signal.SIGKILL)
+        os.rename(f"{it.folder}/plan", f"{it.folder}/farm-2/plan.toml")
+        with supervised(it) as said:
+            it.must("start")
+            assert it.lock(1) == first
+            os.kill(first, signal.SIGKILL)
+            assert until(lambda: "farm-1 has failed" in text_of(said))
+            assert until(lambda: it.lock(1) != first)
+
+
+def test_no_account_reads_the_log() -> None:
+    """What `serve` says names students, so no other account reads it, also if it could before."""
+    with Course(1) as it:
+        os.chmod(f"{put(f'{it.folder}/farm-1/serve.log', '')}", 0o644)
+        it.must("start")
+        assert mode_of(f"{it.folder}/farm-1/serve.log") == 0o600
+
+
+def test_ports_are_told_without_files() -> None:
+    """A user is answered which ports are joined also if the plan can't be read any more."""
+    with Served(PLAN) as it:
+        os.rename(f"{it.folder}/plan", f"{it.folder}/away")
+        assert it.ask("ann", "ports").startswith("ports 0:-")
+
+
+def test_a_start_that_fails_tells_no_record() -> None:
+    """Clients aren't told what `live` said of records when the farm could not be started."""
+    with Served(PLAN, starts=False) as it:
+        it.env["LIVE"] = put(f"{it.room.name}/live", SAYING)
+        os.chmod(it.env["LIVE"], 0o755)
+        it.begun = subprocess.Popen(it.call(), env=it.env, stdin=subprocess.DEVNULL, stderr=subprocess.PIPE)
+        assert until(lambda: os.path.exists(f"{it.folder}/ann.sock"))
+        ann = it.client("ann")
+        assert ann.hear() == "note: the farm isn't up yet. Lines are answered when it is"
+        put(f"{it.room.name}/go", "")
+        assert [ann.hear(), ann.hear()] == ["note: the farm could not be started", ""]
+        assert b"bob.replay" in it.process.communicate(timeout=SECONDS)[1]

@@ -76,7 +76,7 @@ class Server:
         self.speakers: dict[str, Speaker] = {}
         self.operator: Operator
         self.accepting: list[asyncio.Task[None]] = []
-        self.wirings: dict[str, Wiring | None] = {}
+        self.wirings: dict[str, Wiring] = {}
 
     def current_live(self) -> running.Live:
         """The run of `live` that is there once the farm is up."""
@@ -181,12 +181,17 @@ class Server:
             return
         speaker.sent(self.current_live().say(speaker.line(text)), asked)
 
+    def read_wirings(self, users: list[str]) -> None:
+        """Reads in the plan what these users have, unless it is known: it is asked for also when no file can be opened."""
+        for name in users:
+            if name not in self.wirings and (found := found_in(self.plan, name, wiring_in)):
+                self.wirings[name] = found
+
     def say_ports(self, speaker: Speaker, asked: Asked) -> None:
         """Answers a user's client which of his ports are joined: by the words of the switch, of which he gets those of his own
         ports. His domain isn't asked, so nothing is recorded."""
-        if speaker.name not in self.wirings:
-            self.wirings[speaker.name] = found_in(self.plan, speaker.name, wiring_in)
-        wiring = self.wirings[speaker.name]
+        self.read_wirings([speaker.name])
+        wiring = self.wirings.get(speaker.name)
         assert asked.client, "a client has asked"
         client: Client = asked.client
         client.waits += 1
@@ -196,8 +201,8 @@ class Server:
             speaker.free(asked)
             text = (
                 UNANSWERED + shown(asked.text)
-                if answer is None
-                else ports_told(answer.decode(), wiring.physical if wiring else ()).encode()
+                if answer is None or wiring is None
+                else ports_told(answer.decode(), wiring.physical).encode()
             )
             return speaker, text + b"\n", asked
 
@@ -205,6 +210,9 @@ class Server:
 
     def tell_all(self, text: str) -> None:
         self.reports.say(f"serve: {text}")
+        self.tell_clients(text)
+
+    def tell_clients(self, text: str) -> None:
         for speaker in self.speakers.values():
             speaker.tell(f"note: {text}\n".encode())
 
@@ -305,7 +313,8 @@ class Server:
                 "the plan has other users now: start serve again in a fresh folder, or give the plan as it was"
             )
         self.folder.keep_plan()
-        self.plan, self.wirings = self.folder.plan, {}
+        self.plan = self.folder.plan
+        self.read_wirings(users)
         self.is_up = True
         self.goes.set()
         if self.is_stopping:
@@ -422,7 +431,10 @@ async def run(words: argparse.Namespace, reports: Reports) -> int:
     except running.Ended as ended:
         if server.is_stopping:
             return 0
-        server.tell_all(ended.advice(words.PLAN, plan_faults(words.PLAN) if ended.status == running.PLAN else ""))
+        # what live said may be of any user's record
+        server.tell_clients("the farm could not be started")
+        faults = plan_faults(words.PLAN) if ended.status == running.PLAN else ""
+        reports.say(f"serve: {ended.advice(words.PLAN, faults)}")
         return 1
     except Refused as refused:
         server.tell_all(f"{refused}")

@@ -2,6 +2,7 @@
 
 from __future__ import annotations
 
+import contextlib
 import fcntl
 import os
 import select
@@ -12,6 +13,7 @@ import time
 
 from .escapes import escaped
 from .folder import Refused, holder, is_locked, own_plan, program, was_stopped
+from .holders import serve_of
 from .kept import Kept, class_in
 from .upkeep import Start, is_up
 
@@ -92,6 +94,10 @@ class Supervisor:
         self.pending: set[str] = set()
         # those that had just been started, and are to be off
         self.leaving: set[str] = set()
+        # the `serve` of each farm that somebody else has started, and what was said last of each farm that can't be started
+        self.others: dict[str, int] = {}
+        self.faults: dict[str, str] = {}
+        self.kept = class_in(self.course)
         self.wakes, self.waking = os.pipe2(os.O_NONBLOCK | os.O_CLOEXEC)
         # before another process can see whom it may tell
         for it in (ALL, CHANGED, LEAVE_OFF, signal.SIGCHLD, *STOPPING):
@@ -126,6 +132,7 @@ class Supervisor:
                 self.pending.add(farm)
             return
         if is_locked(farm):
+            self.take_over(farm)
             return
         self.pending.discard(farm)
         self.leaving.discard(farm)
@@ -134,8 +141,43 @@ class Supervisor:
         # pylint: disable-next=consider-using-with
         self.children[farm] = subprocess.Popen(call, stdin=subprocess.DEVNULL, start_new_session=True)
 
+    def take_over(self, farm: str) -> None:
+        """Keeps in sight a farm that somebody else has started, as an earlier process of this kind."""
+        number = serve_of(farm)
+        if number is not None and farm not in self.others:
+            with contextlib.suppress(ProcessLookupError):
+                self.others[farm] = os.pidfd_open(number)
+
+    def try_start(self, farm: str) -> None:
+        """Starts a farm if it can be started. Else that is said once, and it is tried again after a while."""
+        try:
+            self.start(farm, self.kept)
+            self.faults.pop(farm, None)
+        except (OSError, Refused) as error:
+            self.due[farm] = time.monotonic() + AGAIN_SECONDS
+            if self.faults.get(farm) != f"{error}":
+                self.faults[farm] = f"{error}"
+                self.say(f"{os.path.basename(farm)} can't be started: {error}")
+
+    def is_changed(self, farm: str) -> bool:
+        """Whether a farm has another plan than that with which it was started."""
+        try:
+            return farm not in self.plans or self.plans[farm] != self.plan(farm)
+        except OSError:
+            return True
+
+    def look_at_others(self) -> None:
+        """Takes off the farms of others that have ended. One that wasn't stopped is started again after a while."""
+        for farm, process in [*self.others.items()]:
+            if select.select([process], [], [], 0)[0]:
+                os.close(self.others.pop(farm))
+                if not was_stopped(farm):
+                    self.say(f"{os.path.basename(farm)} has failed, and is started again in {AGAIN_SECONDS} seconds")
+                    self.due[farm] = time.monotonic() + AGAIN_SECONDS
+
     def look(self) -> None:
         """Takes off the farms that have ended. One that wasn't stopped is started again after a while."""
+        self.look_at_others()
         for farm, process in [*self.children.items()]:
             status = process.poll()
             if status is None:
@@ -153,26 +195,33 @@ class Supervisor:
         """Starts no farm again that is off, and ends those that nobody can ask yet to stop."""
         self.due, self.pending = {}, set()
         for farm, process in self.children.items():
-            if not is_locked(farm):
-                self.leaving.add(farm)
-                process.terminate()
+            with contextlib.suppress(OSError, Refused):
+                if not is_locked(farm):
+                    self.leaving.add(farm)
+                    process.terminate()
 
     def go_on(self) -> None:
         """Starts what is to be started now."""
-        kept, asked, self.asked = class_in(self.course), self.asked, set()
+        asked, self.asked = self.asked, set()
+        try:
+            self.kept = class_in(self.course)
+            self.faults.pop(self.course, None)
+        except (OSError, Refused) as error:
+            if self.faults.get(self.course) != f"{error}":
+                self.faults[self.course] = f"{error}"
+                self.say(f"{error}; the farms that were there go on")
         if LEAVE_OFF in asked:
             self.leave_off()
-        self.due = {farm: when for farm, when in self.due.items() if farm in kept.farms}
-        for farm in kept.farms:
+        self.due = {farm: when for farm, when in self.due.items() if farm in self.kept.farms}
+        for farm in self.kept.farms:
             is_due = self.due.get(farm, float("inf")) <= time.monotonic()
-            is_changed = farm not in self.plans or self.plans[farm] != self.plan(farm)
-            if ALL in asked or is_due or (CHANGED in asked and is_changed):
-                self.start(farm, kept)
+            if ALL in asked or is_due or (CHANGED in asked and self.is_changed(farm)):
+                self.try_start(farm)
 
     def wait(self) -> None:
         """Waits until a signal comes or a farm is due."""
         pause = max(0, min(self.due.values()) - time.monotonic()) if self.due else None
-        if select.select([self.wakes], [], [], pause)[0]:
+        if self.wakes in select.select([self.wakes, *self.others.values()], [], [], pause)[0]:
             self.asked |= {signal.Signals(it) for it in os.read(self.wakes, 4096)}
 
     def is_removed(self) -> bool:
@@ -188,6 +237,11 @@ class Supervisor:
             self.wait()
         for process in self.children.values():
             process.send_signal(signal.SIGTERM)
+        for process_of_others in self.others.values():
+            with contextlib.suppress(ProcessLookupError):
+                signal.pidfd_send_signal(process_of_others, signal.SIGTERM)
         # serve ends by itself within a minute
         statuses = [process.wait() for process in self.children.values()]
+        for process_of_others in self.others.values():
+            select.select([process_of_others], [], [])
         return 1 if any(statuses) else 0

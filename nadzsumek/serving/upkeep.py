@@ -12,7 +12,7 @@ import time
 from collections.abc import Sequence
 
 from .escapes import escaped
-from .folder import LOG, Refused, is_locked, own_plan, program
+from .folder import LOG, OWN_FILE, Refused, is_locked, own_plan, program
 from .holders import end_serve, live_at, serve_of
 from .sheets import count
 from .status import ask_operator, operators_stream
@@ -130,7 +130,8 @@ class Start(Work):
         plan = own_plan(self.folder)
         self.starts += 1
         self.size = os.path.getsize(self.log) if os.path.exists(self.log) else 0
-        with open(self.log, "ab") as log:
+        with open(os.open(self.log, os.O_WRONLY | os.O_APPEND | os.O_CREAT | os.O_NOFOLLOW, OWN_FILE), "ab") as log:
+            os.fchmod(log.fileno(), OWN_FILE)
             # pylint: disable-next=consider-using-with
             self.process = subprocess.Popen(
                 [program("serve"), *self.rights, plan, self.folder],
