@@ -11,11 +11,16 @@ import sys
 import time
 from collections.abc import Callable, Iterator
 
+import pytest
 from nadzsumek.serving.changing import hold
+from nadzsumek.serving.checking import copied
+from nadzsumek.serving.folder import Refused
+from nadzsumek.serving.records import last_fault
+from nadzsumek.serving.upkeep import Stop, do_all
 from support.courses import Course, child_of
 from support.live_lines import PLAN, SECONDS
 from support.serving_trials import Served
-from support.trials import TOP, put, text_of
+from support.trials import TOP, put, run, text_of
 
 
 def is_gone(number: int) -> bool:
@@ -225,6 +230,8 @@ def test_ports_are_told_without_files() -> None:
 def test_a_start_that_fails_tells_no_record() -> None:
     """Clients aren't told what `live` said of records when the farm could not be started."""
     with Served(PLAN, starts=False) as it:
+        os.mkdir(it.folder)
+        put(f"{it.folder}/plan", PLAN)
         it.env["LIVE"] = put(f"{it.room.name}/live", SAYING)
         os.chmod(it.env["LIVE"], 0o755)
         it.begun = subprocess.Popen(it.call(), env=it.env, stdin=subprocess.DEVNULL, stderr=subprocess.PIPE)
@@ -234,3 +241,54 @@ def test_a_start_that_fails_tells_no_record() -> None:
         put(f"{it.room.name}/go", "")
         assert [ann.hear(), ann.hear()] == ["note: the farm could not be started", ""]
         assert b"bob.replay" in it.process.communicate(timeout=SECONDS)[1]
+
+
+def test_sockets_tell_nothing_of_records() -> None:
+    """The sockets are there at once when a farm goes on, whatever `live` says of records."""
+    with Served(PLAN, starts=False) as it:
+        os.mkdir(it.folder)
+        put(f"{it.folder}/plan", PLAN)
+        it.env["LIVE"] = put(f"{it.room.name}/live", SAYING.replace("echo", "true"))
+        os.chmod(it.env["LIVE"], 0o755)
+        it.begun = subprocess.Popen(it.call(), env=it.env, stdin=subprocess.DEVNULL, stderr=subprocess.PIPE)
+        assert until(lambda: os.path.exists(f"{it.folder}/ann.sock"))
+
+
+def test_a_name_that_is_a_number_is_refused() -> None:
+    """A plan whose user's name is no text is refused by `live`, also with a group."""
+    with Served(PLAN.replace('"ann"', "5"), starts=False) as it:
+        done = run(it.call("--group", "farm-%u"), more=it.env)
+        assert (done.status, b"Traceback" in done.errors, b"the plan is refused" in done.errors) == (1, False, True)
+
+
+def test_no_thread_is_no_fault(monkeypatch: pytest.MonkeyPatch) -> None:
+    """If the system has no thread for a farm that is said, and the others are done."""
+
+    def start(_: Stop) -> None:
+        raise RuntimeError("can't start new thread")
+
+    monkeypatch.setattr(Stop, "start", start)
+    assert do_all([Stop("/nonexistent/farm-1", "/nonexistent")]) == 1
+
+
+def test_no_program_is_a_link(folder: str) -> None:
+    """A program that is a link is read with nobody's rights."""
+    put(f"{folder}/mine", "secret")
+    os.symlink(f"{folder}/mine", f"{folder}/ada.s")
+    with pytest.raises(Refused, match="it is a link"):
+        copied(f"{folder}/ada.s", f"{folder}/room/ada.s")
+
+
+def test_few_whys_are_on_their_way() -> None:
+    """A `why` counts as many lines, so that few of them are before an operator's restart."""
+    with Served(PLAN, logged=True) as it, it.held_live():
+        ann = it.client("ann")
+        ann.say("why\n" * 100)
+        time.sleep(1)
+        assert it.logged().count(b"ann why") <= 5
+
+
+def test_of_a_long_record_the_end_is_read(folder: str) -> None:
+    """A fault is looked for in the last 64 MiB of a record, and no further."""
+    put(f"{folder}/ann.replay", "0 step 3 @farm = fault 1\n" + "0 look 0\n" * (65 << 17))
+    assert last_fault(folder, "ann") == "?"

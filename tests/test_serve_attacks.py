@@ -339,7 +339,9 @@ def test_progress_is_told() -> None:
         # what it says is more than usual rooms take
         starting = threading.Thread(target=lambda: it.start("--room", "2G", "--record-room", "2G"))
         starting.start()
-        starting.join()
+        while not os.path.exists(f"{it.folder}/bob.sock"):
+            time.sleep(0.01)
+        time.sleep(0.2)
         ann, bob = it.client("ann"), it.client("bob")
         heard = [ann.hear() for _ in range(2)]
         ann.say("look 0\n")
@@ -353,4 +355,5 @@ def test_progress_is_told() -> None:
         ] == []
         assert heard[-2:] == ["note: the farm is up", LOOKED]
         assert [bob.hear() for _ in range(2)] == [heard[0], "note: the farm is up"]
+        starting.join()
         assert it.stop()[0] == 0

@@ -96,8 +96,8 @@ def programs_in(folder: str, users: list[str]) -> tuple[dict[str, list[str]], li
 
 def copied(source: str, target: str) -> None:
     """Copies a program, which must be a file of a usual size."""
-    if not os.path.isfile(source):
-        raise Refused(f"there is no file {os.path.basename(source)}")
+    if not os.path.isfile(source) or os.path.islink(source):
+        raise Refused(f"there is no file {os.path.basename(source)}, or it is a link: put the file itself there")
     if os.path.getsize(source) > MOST_BYTES:
         raise Refused(f"{os.path.basename(source)} has more than {MOST_BYTES} bytes")
     os.makedirs(os.path.dirname(target), exist_ok=True)

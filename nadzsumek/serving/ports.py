@@ -113,7 +113,8 @@ def users_in(path: str) -> list[list[str]]:
     """The users of each domain of a plan, in its order; nobody if it can't be read."""
     try:
         with open(path, "rb") as it:
-            return [[user["name"] for user in domain.get("user", [domain])] for domain in tomllib.load(it)["domain"]]
+            users = [[user["name"] for user in domain.get("user", [domain])] for domain in tomllib.load(it)["domain"]]
+        return users if all(isinstance(name, str) for names in users for name in names) else []
     except UNREAD:
         return []
 

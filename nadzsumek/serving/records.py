@@ -2,12 +2,15 @@
 
 from __future__ import annotations
 
+import itertools
 import os
 import re
 from collections.abc import Iterator
 
 # How many bytes of a record are read at a time.
 PIECE = 1 << 18
+# In so many pieces from the end of a record a fault is looked for.
+MOST_PIECES = 256
 # What a node's Steps are answered that ended with a fault: its number, and the instruction if the fault has one.
 FAULT = re.compile(rb"\bstep (\d+)\b.* fault (\d+(?: [0-9a-f]+)?)$")
 
@@ -46,13 +49,16 @@ def fault_in(piece: bytes) -> str | None:
 
 
 def last_fault(records: str, name: str) -> str:
-    """The last fault that is recorded of a user's nodes since the last restart, or a hyphen."""
+    """The last fault that is recorded of a user's nodes since the last restart, or a hyphen; a question mark if only the
+    end of a long record was looked at."""
     try:
         file = os.open(records_of(records, name)[-1], os.O_RDONLY)
     except (OSError, IndexError):
         return "-"
     try:
-        return next((fault for piece in pieces_from_the_end(file) if (fault := fault_in(piece))), "-")
+        pieces = itertools.islice(pieces_from_the_end(file), MOST_PIECES)
+        unknown = "?" if os.fstat(file).st_size > MOST_PIECES * PIECE else "-"
+        return next((fault for piece in pieces if (fault := fault_in(piece))), unknown)
     except OSError:
         return "-"
     finally:

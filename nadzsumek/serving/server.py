@@ -85,12 +85,15 @@ class Server:
 
     def prepare(self) -> None:
         """Takes the sockets away that a killed `serve` has left, and sees that each user has his group. A plan that can't be
-        read is left to `live`."""
+        read is left to `live`. If the plan was accepted before, the sockets are opened at once: when that is must not show
+        how long anybody's record is."""
         names = [name for users in users_in(self.plan) for name in users]
         for name in [*names, OPERATOR]:
             with contextlib.suppress(Refused):
                 self.folder.remove_dead(socket_path(self.folder.path, name))
         self.groups_of(names)
+        if names and not self.folder.is_first:
+            self.open(names)
 
     def groups_of(self, users: list[str]) -> list[int | None]:
         """The number of the group of each user's socket; none if no group was given."""
@@ -233,17 +236,8 @@ class Server:
                 speaker.give_up([number])
 
     def tell_progress(self, record: str, far: str) -> None:
-        """Tells the users of a domain how far its record is done again. At the first start `live` has accepted the plan by
-        now, so the sockets are opened then."""
-        domains = users_in(self.plan)
-        if not self.speakers and domains:
-            try:
-                self.open([name for users in domains for name in users])
-            except (Refused, OSError):
-                # it is said when `live` is up
-                self.close_sockets()
-                return
-        for users in domains:
+        """Tells the users of a domain how far its record is done again."""
+        for users in users_in(self.plan):
             if re.fullmatch(rf"{re.escape(users[0])}(\.\d+)?", record):
                 for name in users:
                     if name in self.speakers:
@@ -304,7 +298,6 @@ class Server:
 
     async def begin(self) -> None:
         """Starts `live`, opens the sockets if they aren't open yet, and says to whom lines go."""
-        self.is_proved = await asyncio.to_thread(is_proved, "live")
         self.live, users = await running.begin(self.call(), self.folder.records, self.begun, self.hear_error)
         if not self.speakers:
             self.open(users)
@@ -398,13 +391,6 @@ class Server:
             self.kill()
         self.end()
 
-    def close_sockets(self) -> list[asyncio.Task[None]]:
-        for task in self.accepting:
-            task.cancel()
-        self.folder.remove_sockets()
-        closed, self.accepting, self.speakers = self.accepting, [], {}
-        return closed
-
     async def close(self) -> None:
         """Takes the sockets away and lets the clients read what they were told."""
         self.kill()
@@ -412,10 +398,12 @@ class Server:
             self.folder.mark_stopped()
         self.folder.remove_new_plan()
         clients = [client for speaker in self.speakers.values() for client in speaker.clients]
-        closed = self.close_sockets()
+        for task in self.accepting:
+            task.cancel()
+        self.folder.remove_sockets()
         for client in clients:
             client.writer.close()
-        await asyncio.gather(*closed, return_exceptions=True)
+        await asyncio.gather(*self.accepting, return_exceptions=True)
 
 
 async def run(words: argparse.Namespace, reports: Reports) -> int:
@@ -426,6 +414,7 @@ async def run(words: argparse.Namespace, reports: Reports) -> int:
             loop.add_signal_handler(one, server.stop)
     watching = [asyncio.ensure_future(it) for it in (server.watch(), server.look_for_folder())]
     try:
+        server.is_proved = await asyncio.to_thread(is_proved, "live")
         server.prepare()
         return await server.keep()
     except running.Ended as ended:

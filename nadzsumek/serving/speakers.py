@@ -22,6 +22,8 @@ MOST_ON_WAY = 250
 MOST_OF_OPERATOR = 16
 # A longer line counts as several.
 BYTES_OF_ONE = 1 << 12
+# `why` may do many Steps before it is answered, so it counts as so many lines: the operator's restart waits for few of them.
+WHY, OF_WHY = b"why", 50
 # A client that lets more bytes than this wait for it is cut off.
 MOST_BACKLOG = 1 << 20
 MOST_CLIENTS = 16
@@ -86,7 +88,7 @@ class Speaker:
 
     async def enter(self, text: bytes, client: Client, tag: bytes) -> Asked:
         """Waits until one more line may be on its way. Clients of one speaker take turns."""
-        size = min(1 + len(text) // BYTES_OF_ONE, self.most)
+        size = min(OF_WHY if text.startswith(WHY) else 1 + len(text) // BYTES_OF_ONE, self.most)
         async with self.turn:
             for _ in range(size):
                 await self.room.acquire()

@@ -68,6 +68,13 @@ class Work(threading.Thread):
         except (OSError, Refused) as error:
             self.outcome = False, f"{error}"
 
+    def begin(self) -> None:
+        """Begins it, unless the system has no thread for it."""
+        try:
+            self.start()
+        except RuntimeError as error:
+            self.outcome = False, f"nothing is done with it: {error}. See ulimit -u, and give the order again"
+
     def done(self) -> tuple[bool, str]:
         """Does it, and returns the outcome."""
         raise NotImplementedError
@@ -268,7 +275,7 @@ class Stop(Work):
 def all_done(works: Sequence[Work]) -> list[Work]:
     """Does works side by side, and says each few seconds what is waited for; those that failed."""
     for work in works:
-        work.start()
+        work.begin()
     while waiting := [it for it in works if it.is_alive()]:
         waiting[0].join(SAY_SECONDS)
         if waiting[0].is_alive():
@@ -280,11 +287,12 @@ def do_all(works: Sequence[Work]) -> int:
     """Does works side by side, and says what became of each, in their order, and each few seconds what is waited for; the
     status."""
     for work in works:
-        work.start()
+        work.begin()
     failed = at = 0
     try:
         while at < len(works):
-            works[at].join(SAY_SECONDS)
+            if works[at].is_alive():
+                works[at].join(SAY_SECONDS)
             if works[at].is_alive():
                 waiting = [it for it in works if it.is_alive()]
                 more = f" ({len(waiting)} farms are waited for)" if len(waiting) > 1 else ""

@@ -93,7 +93,7 @@ def row_of(row: tuple[str, ...], person: str, nodes: list[str]) -> str:
     who = (
         f"<td>{html.escape(escaped(person))}<br><small>{html.escape(row[USER])}, {html.escape(row[FARM])}</small></td>"
     )
-    fault = cell(row[FAULT], "fault" if row[FAULT] != "-" else "")
+    fault = cell(row[FAULT], "fault" if row[FAULT] not in ("-", "?") else "")
     return (
         f"<tr>{who}{cell(row[NOW], kind)}<td><pre>{waits}</pre></td>{cell(row[ROOM])}{cell(row[LINES])}{fault}</tr>\n"
     )

@@ -121,12 +121,15 @@ class Served:
         self.await_start()
 
     def await_start(self) -> None:
-        """Waits until the operator's socket is there."""
+        """Waits until the operator's socket is there, and the farm is up."""
         end = time.monotonic() + START_SECONDS
         while True:
             try:
-                self.client("operator").stream.close()
-                return
+                client = self.client("operator")
+                client.stream.shutdown(socket.SHUT_WR)
+                if b"isn't up yet" not in client.lines.read():
+                    return
+                time.sleep(0.05)
             except OSError:
                 if time.monotonic() > end or self.process.poll() is not None:
                     raise
