@@ -153,7 +153,7 @@ def test_start_says_why_not() -> None:
         assert (done.returncode, done.stderr, len(told)) == (1, "", 2)
         begun = f"farm-1: it did not start, see {place}/farm-1/serve.log: serve: the plan is refused: "
         assert told[0][: len(begun)] == begun
-        assert told[1] == f"farm-2: [Errno 2] No such file or directory: '{place}/farm-2/serve.log'"
+        assert told[1] == f"farm-2: [Errno 2] No such file or directory: '{place}/farm-2'"
 
 
 @pytest.mark.long

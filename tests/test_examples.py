@@ -1,5 +1,6 @@
 """Examples, by `farm` in many ways and by the lab, and what both must refuse."""
 
+import itertools
 import os
 import tempfile
 import tomllib
@@ -167,7 +168,7 @@ def explanations() -> list[tuple[bytes, int, list[str]]]:
     return rows
 
 
-@pytest.mark.parametrize(("text", "status", "lines"), explanations())
+@pytest.mark.parametrize(("text", "status", "lines"), explanations(), ids=map(str, itertools.count(1)))
 def test_explained(text: bytes, status: int, lines: list[str]) -> None:
     assert run(EXPLAINED, text) == (status, b"", "".join(f"{it}\n" for it in lines).encode())
 

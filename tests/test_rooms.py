@@ -339,6 +339,7 @@ def bound_memory(farm: Farm, spare: int) -> None:
     resource.prlimit(farm.process.pid, resource.RLIMIT_AS, (most, most))
 
 
+@pytest.mark.alone
 def test_out_of_memory_is_the_users_who_meets_it() -> None:
     """A user whose line is too long for the memory that is left is answered that there is none. Their domain rests, others go on,
     and `restart` begins it anew, while there is no more memory than before."""
