@@ -5,6 +5,7 @@ run, with a toolchain that builds nothing."""
 
 import os
 import subprocess
+import tempfile
 
 import pytest
 from support.trials import PLAIN_NAMES, TOP, contents, example, put, run
@@ -62,6 +63,21 @@ def test_live_answers_as_farm() -> None:
     finally:
         os.remove(path)
     assert (status, sorted(out.splitlines())) == (0, sorted(contents(f"{EXAMPLE}.out").splitlines()))
+
+
+def test_class_status_says_so() -> None:
+    """Below the rows of a class whose farm runs the build."""
+    with tempfile.TemporaryDirectory() as folder:
+        course = f"{folder}/course"
+        put(f"{folder}/names.txt", "ann\n")
+        call = [f"{TOP}/class", "--students", f"{folder}/names.txt", "--nodes", "1", course]
+        assert run(call).status == 0
+        try:
+            assert run([f"{TOP}/class", "start", course], seconds=SECONDS).status == 0
+            told = run([f"{TOP}/class", "status", course]).output.decode().splitlines()
+        finally:
+            run([f"{TOP}/class", "stop", course])
+        assert told[-1] == "farm-1 isn't proved yet: ./prove proves it, and it is proved from its next start on"
 
 
 def test_rows_of_occam_are_right() -> None:

@@ -163,14 +163,14 @@ def stop(folder: str) -> int:
 
 
 def status(folder: str) -> int:
-    """Prints a row for each student, and below them how much memory each farm has that answers."""
+    """Prints a row for each student, and below them how much memory each farm has that answers, and whether it is proved."""
     farms = class_in(folder).farms
     # a farm that doesn't answer delays no other's rows
     with ThreadPoolExecutor(MOST_ASKED) as pool:
         told = [*pool.map(told_by, farms.keys(), farms.values())]
     print("\n".join(table([row for rows, _ in told for row in rows])))
-    memory = [escaped(it) for _, it in told if it is not None]
-    print("".join(f"{it}\n" for it in (["", *memory] if memory else [])), end="")
+    remarks = [escaped(it) for _, lines in told for it in lines]
+    print("".join(f"{it}\n" for it in (["", *remarks] if remarks else [])), end="")
     return 0
 
 

@@ -25,6 +25,8 @@ os.environ["NADZSUMEK_QUIET"] = "yes"
 # The folders of examples that can be loaded, each with the ending of their names.
 EXAMPLES = {".s": os.path.join(TOP, "examples", "programs"), ".occ": os.path.join(TOP, "examples", "occam")}
 OPERATOR = "operator"
+# What a farm tells whoever connects, if its program isn't known to be proved.
+NOT_PROVED = "note: the program of this farm isn't proved yet"
 # The plan of the farm, which is copied at the first start.
 PLAN = "plan"
 # What is kept of a class, in the folder above those of its farms.

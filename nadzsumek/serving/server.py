@@ -20,6 +20,7 @@ from . import running
 from .accepting import accept
 from .escapes import escaped
 from .folder import (
+    NOT_PROVED,
     OPERATOR,
     Folder,
     Refused,
@@ -140,7 +141,7 @@ class Server:
             if who:
                 self.reports.say(f"serve: {who} has opened the operator's socket")
             if not self.is_proved:
-                client.tell(b"note: the program of this farm isn't proved yet\n")
+                client.tell(f"{NOT_PROVED}\n".encode())
             if not self.is_up:
                 client.tell(b"note: the farm isn't up yet. Lines are answered when it is\n")
             await client.serve(self.send)

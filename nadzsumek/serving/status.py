@@ -7,7 +7,7 @@ import os
 import socket
 
 from .escapes import escaped
-from .folder import OPERATOR, is_locked, socket_path
+from .folder import NOT_PROVED, OPERATOR, is_locked, socket_path
 from .records import last_fault
 
 # How long a farm may take for what its operator asks.
@@ -75,18 +75,22 @@ def told_of(words: list[str]) -> list[str] | str:
     return words if fits else SILENT
 
 
-def memory_told(folder: str, answers: list[str]) -> str | None:
-    """What is said of the memory that a farm has, and that its rooms may take; none if it wasn't told."""
+def remarks_of(folder: str, answers: list[str]) -> list[str]:
+    """What is said of a farm below the rows: the memory that it has and that its rooms may take, if that was told, and that its
+    program isn't proved yet."""
+    farm, remarks = os.path.basename(folder), list[str]()
     words: list[str] = next((it.split(" ") for it in answers if it.startswith("!memory ")), [])
-    if len(words) < 3 or not all(is_number(it) for it in words[1:3]):
-        return None
-    has, may = (f"{int(it) / MIB:.0f} MiB" for it in words[1:3])
-    return f"{os.path.basename(folder)} has {has} of memory, and its rooms may take {may}"
+    if len(words) >= 3 and all(is_number(it) for it in words[1:3]):
+        has, may = (f"{int(it) / MIB:.0f} MiB" for it in words[1:3])
+        remarks.append(f"{farm} has {has} of memory, and its rooms may take {may}")
+    if NOT_PROVED in answers:
+        remarks.append(f"{farm} isn't proved yet: ./prove proves it, and it is proved from its next start on")
+    return remarks
 
 
-def told_by(folder: str, names: list[str]) -> tuple[list[tuple[str, ...]], str | None]:
-    """The rows of a farm's students, and what is said of its memory; none of that if it doesn't say so."""
-    answers, without = [], OFF
+def told_by(folder: str, names: list[str]) -> tuple[list[tuple[str, ...]], list[str]]:
+    """The rows of a farm's students, and what is said of the farm."""
+    answers, without = list[str](), OFF
     if is_locked(folder):
         without = SILENT
         with contextlib.suppress(OSError):
@@ -94,7 +98,7 @@ def told_by(folder: str, names: list[str]) -> tuple[list[tuple[str, ...]], str |
     told = {
         words[1]: told_of(words[2:]) for it in answers if (words := it.split(" "))[0] == "!users" and len(words) > 1
     }
-    return [row_of(folder, name, told.get(name, without)) for name in names], memory_told(folder, answers)
+    return [row_of(folder, name, told.get(name, without)) for name in names], remarks_of(folder, answers)
 
 
 def table(rows: list[tuple[str, ...]]) -> list[str]:
