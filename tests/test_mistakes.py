@@ -4,6 +4,7 @@ A line of a script is wrong to the table exactly if the program `farm` refuses a
 from __future__ import annotations
 
 import os
+import subprocess
 from collections.abc import Iterator
 
 import pytest
@@ -239,3 +240,14 @@ def test_the_command_lab(words: list[str], text: bytes, status: int, told: list[
     number = text.count(b"\n")
     wanted = "".join(f"{line.replace('NUMBER', f'{number}')}\n" for line in told).encode()
     assert run("lab", words, text) == (status, b"", wanted)
+
+
+@pytest.mark.parametrize("words", [[], ["--explain"], ["--letters"]])
+def test_a_folder_is_no_input(words: list[str]) -> None:
+    """The command says of it what the program says of an input that can't be read."""
+    folder = os.open(TOP, os.O_RDONLY)
+    try:
+        done = subprocess.run([f"{TOP}/farm", *words], stdin=folder, capture_output=True, check=False)
+    finally:
+        os.close(folder)
+    assert (done.returncode, done.stdout, done.stderr) == (6, b"", b"io\n")
