@@ -17,10 +17,10 @@ _nadzsumek_options() {
     lab\ expand) echo '-h --help' ;;
     lab\ run) echo '--record --steps -h --help --send --send-to --memory' ;;
     lab\ debug) echo '--program --steps -h --help' ;;
-    serve) echo '-h --help --version --workers --quantum --room --record-room --mode --group --sync --patience' ;;
+    serve) echo '-h --help --version --workers --quantum --room --record-room --mode --group --sync --proved --patience' ;;
     connect) echo '-h --help --version -c --json --unchecked' ;;
-    class) echo '-h --help --version --students --nodes --hosts --memory --limit --room --record-room --mode --group' ;;
-    class\ start) echo '--room --record-room' ;;
+    class) echo '-h --help --version --students --nodes --hosts --memory --limit --room --record-room --mode --group --proved' ;;
+    class\ start) echo '--room --record-room --proved' ;;
     class\ serve) echo '--sync' ;;
     class\ add) echo '--students' ;;
     class\ change) echo '--nodes --hosts' ;;

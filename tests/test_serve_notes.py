@@ -210,7 +210,7 @@ def test_class_keeps_rooms() -> None:
         done = it.call("start", "--room", "5M", it.folder)
         assert (done.returncode, done.stderr) == (
             1,
-            f"class: farm-1 is up, with the rooms that it has: class stop {it.folder} first\n",
+            f"class: farm-1 is up, as it was started: class stop {it.folder} first\n",
         )
         rows = it.must("status").splitlines()
         assert [re.split("  +", row)[4:8] for row in rows[:2]] == [

@@ -75,9 +75,13 @@ def test_class_status_says_so() -> None:
         try:
             assert run([f"{TOP}/class", "start", course], seconds=SECONDS).status == 0
             told = run([f"{TOP}/class", "status", course]).output.decode().splitlines()
+            asked = run([f"{TOP}/connect", f"{course}/farm-1", "operator", "-c", "users"]).output.decode().splitlines()
         finally:
             run([f"{TOP}/class", "stop", course])
         assert told[-1] == "farm-1 isn't proved yet: ./prove proves it, and it is proved from its next start on"
+        # the greeting says it, and the answer
+        assert asked.count("note: the program of this farm isn't proved yet") == 2, asked
+        assert [it.split(" ")[0] for it in asked if not it.startswith("note: ")] == ["!users"], asked
 
 
 def test_rows_of_occam_are_right() -> None:

@@ -21,7 +21,9 @@ from .folder import (
     COPY_MODE,
     FOLDER_MODE,
     OWN_FILE,
+    PROVED,
     Refused,
+    add_proved,
     build,
     check_own,
     check_own_file,
@@ -31,6 +33,7 @@ from .folder import (
     own_plan,
     program,
     put_whole,
+    refuse_unproved,
     socket_path,
 )
 from .kept import Kept, Rooms, class_in, keep
@@ -87,6 +90,7 @@ def make(words: argparse.Namespace) -> int:
             text = sheet(students[name], name, machine, place, ways)
             put_whole(sheet_path(folder, name), text.encode(), OWN_FILE)
     rights = ["--mode", f"{words.mode:03o}"] + (["--group", words.group] if words.group else [])
+    rights += [PROVED] if words.proved else []
     rooms = Rooms(words.room, words.record_room)
     keep(folder, Kept(farms, rights, rooms, machine))
     print("".join(f"note: {escaped(it)}\n" for it in notes), end="")
@@ -100,7 +104,8 @@ def make(words: argparse.Namespace) -> int:
 
 def start(folder: str) -> int:
     """Starts each farm that isn't served yet, and waits until it answers."""
-    class_in(folder)
+    if PROVED in class_in(folder).rights:
+        refuse_unproved()
     build("class", "live", "lab")
     with hold(folder, fcntl.LOCK_SH):
         kept = class_in(folder)
@@ -108,25 +113,27 @@ def start(folder: str) -> int:
 
 
 def start_with(words: list[str]) -> int:
-    """Starts the farms with other rooms than they had, which are kept from then on."""
+    """Starts the farms with other rooms than they had, or with proved programs alone, which is kept from then on."""
     parser = argparse.ArgumentParser(
         prog="class start",
-        usage="class start [--room SIZE] [--record-room SIZE] DIR",
-        description="Starts the farms of a class with other rooms, also from then on.",
+        usage="class start [--room SIZE] [--record-room SIZE] [--proved] DIR",
+        description="Starts the farms of a class with other rooms, or with proved programs alone, also from then on.",
     )
     add_rooms(parser, None, None)
+    add_proved(parser)
     parser.add_argument("DIR", help="the folder of the class")
     it = parser.parse_args(words)
     kept = class_in(it.DIR)
     rooms = Rooms(it.room or kept.rooms.room, it.record_room or kept.rooms.record_room)
-    if rooms != kept.rooms:
+    rights = kept.rights + ([PROVED] if it.proved and PROVED not in kept.rights else [])
+    if (rooms, rights) != (kept.rooms, kept.rights):
         for farm in kept.farms:
             if is_locked(farm):
                 raise Refused(
-                    f"{os.path.basename(farm)} is up, with the rooms that it has: class stop {shlex.quote(it.DIR)} first"
+                    f"{os.path.basename(farm)} is up, as it was started: class stop {shlex.quote(it.DIR)} first"
                 )
         with hold(it.DIR, fcntl.LOCK_EX):
-            keep(it.DIR, class_in(it.DIR)._replace(rooms=rooms))
+            keep(it.DIR, class_in(it.DIR)._replace(rooms=rooms, rights=rights))
         say_rooms(it.DIR, sum(len(names) for names in kept.farms.values()), rooms)
     return start(it.DIR)
 
@@ -208,7 +215,8 @@ MORE_ORDERS: dict[str, Callable[[list[str]], int]] = {
 ABOUT_ORDERS = """\
 a class that is there:
   class start DIR             starts the farms that aren't up, and waits until they answer. With --room or --record-room
-                              they have other rooms from then on; stop them first
+                              they have other rooms from then on, and with --proved they run no program that isn't
+                              proved; stop them first
   class serve DIR/FARM        is the serve of one farm, until it is stopped, as a unit of systemd wants it; also with --sync
   class serve DIR             is those of all farms, until it is stopped, also of farms that are added later
   class stop DIR              stops the farms; they go on where they were when they are started again
@@ -237,8 +245,8 @@ def words_of(given: list[str]) -> argparse.Namespace:
         formatter_class=argparse.RawDescriptionHelpFormatter,
         usage="""\
 class --students NAMES.txt --nodes N [--hosts H] [--memory M] [--limit L] [--room SIZE] [--record-room SIZE]
-             [--mode M] [--group G] DIR
-       class start [--room SIZE] [--record-room SIZE] DIR
+             [--mode M] [--group G] [--proved] DIR
+       class start [--room SIZE] [--record-room SIZE] [--proved] DIR
        class serve [--sync] DIR|DIR/FARM
        class stop|status DIR
        class add [--students NAMES.txt] DIR [NAME ..]
@@ -267,6 +275,7 @@ class --students NAMES.txt --nodes N [--hosts H] [--memory M] [--limit L] [--roo
     parser.add_argument(
         "--group", metavar="G", help="the group of the students' sockets; %%u in it stands for the user's name"
     )
+    add_proved(parser)
     parser.add_argument("DIR", help="the folder of the class")
     return parser.parse_args(given)
 
@@ -283,7 +292,7 @@ def order(given: list[str]) -> int:
         more = f"Is it {near}? Try: {how}" if near else "A new class wants --students, see class --help"
         *names, last = sorted([*ORDERS, *MORE_ORDERS])
         raise Refused(f"there is no subcommand {first}: there are {', '.join(names)} and {last}. {more}")
-    if first == "start" and any(it.startswith(("--room", "--record-room")) for it in words):
+    if first == "start" and any(it.startswith("--") for it in words):
         return start_with(words)
     does, wants, example = ORDERS[first]
     least = len(shlex.split(example))

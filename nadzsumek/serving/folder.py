@@ -24,6 +24,8 @@ TOP = os.path.dirname(os.path.dirname(os.path.dirname(os.path.abspath(__file__))
 os.environ["NADZSUMEK_QUIET"] = "yes"
 # The folders of examples that can be loaded, each with the ending of their names.
 EXAMPLES = {".s": os.path.join(TOP, "examples", "programs"), ".occ": os.path.join(TOP, "examples", "occam")}
+# The word by which `serve` and `class` refuse what isn't proved, and the variable by which each command does.
+PROVED, REFUSING = "--proved", "NADZSUMEK_PROVED"
 OPERATOR = "operator"
 # What a farm tells whoever connects, if its program isn't known to be proved.
 NOT_PROVED = "note: the program of this farm isn't proved yet"
@@ -60,9 +62,19 @@ def program(name: str) -> str:
     return os.path.abspath((given_path(name) if name != "lab" else None) or os.path.join(TOP, name))
 
 
+def add_proved(parser: argparse.ArgumentParser) -> None:
+    """Lets a command take the word by which it runs no program that isn't known to be proved."""
+    parser.add_argument(PROVED, action="store_true", help="no program is run that isn't known to be proved")
+
+
+def refuse_unproved() -> None:
+    """Has this command, and each that it starts, refuse what isn't known to be proved."""
+    os.environ[REFUSING] = "yes"
+
+
 def given_path(name: str) -> str | None:
     """The program that a variable names; none if what isn't proved is to be refused."""
-    return None if os.environ.get("NADZSUMEK_PROVED") else os.environ.get(name.upper())
+    return None if os.environ.get(REFUSING) else os.environ.get(name.upper())
 
 
 def start_says(*words: str, stderr: int | None = None) -> bool:

@@ -25,12 +25,14 @@ from .folder import (
     Folder,
     Refused,
     account_name,
+    add_proved,
     build,
     group_number,
     is_built,
     is_proved,
     mode_of,
     program,
+    refuse_unproved,
     socket_path,
 )
 from .ports import Wiring, found_in, ports_told, users_in, wiring_in
@@ -128,7 +130,7 @@ class Server:
             )
         groups = self.groups_of(users)
         self.speakers = {name: Speaker(name) for name in users}
-        self.operator = Operator(OPERATOR, len(users))
+        self.operator = Operator(OPERATOR, len(users), "" if self.is_proved else NOT_PROVED)
         self.speakers[OPERATOR] = self.operator
         for speaker, group in zip(self.speakers.values(), groups):
             self.open_socket(speaker, self.words.mode, group)
@@ -468,6 +470,7 @@ def words_of(given: list[str]) -> argparse.Namespace:
         "--group", metavar="G", help="the group of the users' sockets; %%u in it stands for the user's name"
     )
     it.add_argument("--sync", action="store_true", help="records are on the disk before an answer is told")
+    add_proved(it)
     it.add_argument(
         "--patience",
         type=seconds_of,
@@ -481,6 +484,8 @@ def words_of(given: list[str]) -> argparse.Namespace:
 def main(given: list[str]) -> int:
     open_streams()
     words = words_of(given)
+    if words.proved:
+        refuse_unproved()
     logging.getLogger("asyncio").setLevel(logging.CRITICAL)
     # what is made is for this account alone, unless a mode is given to it
     os.umask(0o077)

@@ -178,15 +178,18 @@ class Operator(Speaker):
     """The operator, whose lines and answers begin with an exclamation mark. `serve` asks as he does whether `live` still
     answers."""
 
-    def __init__(self, name: str, users: int) -> None:
+    def __init__(self, name: str, users: int, remark: str) -> None:
+        """The remark, if there is one, is told after the last row of `!users`."""
         super().__init__(name, MOST_OF_OPERATOR)
         self.prefix, self.users, self.heard = b"!", users, 0
+        self.remark = f"\n{remark}".encode() if remark else b""
 
     def line(self, text: bytes) -> bytes:
         return (b"" if text.startswith(b"!") else b"!") + text + b"\n"
 
     def told(self, answer: bytes) -> bytes:
-        return answer
+        """What a client is told of an answer, after `answered` has counted it."""
+        return answer + (self.remark if answer.startswith(b"!users ") and not self.heard else b"")
 
     def words(self, text: bytes) -> list[bytes]:
         """The words of a line as `live` gets it."""
