@@ -1,9 +1,8 @@
 """What `docs/check` asks of the text of pages and comments: that words are plain, and that links lead to something."""
 import re
 
-# The pages in plain words: all but the one that is made from what programs print.
+# The pages in plain words.
 PLAIN_PAGES = ("README.md", "docs/*.md", "docs/guides/*.md")
-PRINTED = "COMMANDS.md"
 # The page whose rows begin with words that it explains, whatever they are.
 GLOSSARY = "GLOSSARY.md"
 # The words that these pages don't have, each with what to write instead. `stands for` a name or a number is plain.
@@ -54,7 +53,7 @@ def lines_of(page):
 def plain_lines(top):
     """Each line that has plain words alone, as file, number and text."""
     for pattern in PLAIN_PAGES:
-        for page in sorted(it for it in top.glob(pattern) if it.name != PRINTED):
+        for page in sorted(top.glob(pattern)):
             for number, line in lines_of(page):
                 yield page, number, re.sub(r"^\| [^|]*", "", line) if page.name == GLOSSARY else line
     for pattern, begins in PLAIN_COMMENTS:

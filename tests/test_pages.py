@@ -1,5 +1,6 @@
 """The man pages in packaging/man, and what bash completes by packaging/nadzsumek.bash."""
 
+import json
 import os
 import re
 import shutil
@@ -27,7 +28,7 @@ LINES = (
     (["serve", "--workers", "2", "pl"], "plan.toml"),
     (["serve", "plan.toml", "--s"], "--sync"),
     (["class", "st"], "start stop status"),
-    (["class", "start", "--"], "--room --record-room"),
+    (["class", "start", "--"], "--room --record-room --proved"),
     (["class", "start", "co"], "course"),
     (["class", "stop", "--"], ""),
     (["class", "remove", "course", ""], "ada bob"),
@@ -53,9 +54,8 @@ def test_page(name: str) -> None:
     it = run_text(["man", "--warnings", "--local-file", f"{TOP}/packaging/man/{name}.1"], env=env)
     assert (it.returncode, it.stderr) == (0, "")
     shown = re.sub(r".\b", "", it.stdout) if "\b" in it.stdout else it.stdout
-    parts = re.split(r"^## (.*)\n", text_of(f"{TOP}/docs/COMMANDS.md"), flags=re.M)
     words = set[str]()
-    for title, text in zip(parts[1::2], parts[2::2]):
+    for title, text in json.loads(text_of(f"{TOP}/packaging/help.json")).items():
         if title.split()[0] == name:
             words |= {*title.split()[1:], *re.findall(r"(?<![\w-])--[a-z][a-z-]*", text)}
     assert words

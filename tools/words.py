@@ -1,5 +1,5 @@
-"""Answers `--help` and wrong words of a program that isn't built yet, from docs/COMMANDS.md. That page has what the program prints for
-`--help`, and the gate compares it.
+"""Answers `--help` and wrong words of a program that isn't built yet, from packaging/help.json. That file has what the program prints
+for `--help`, and the gate compares it.
 
 usage: python3 -S tools/words.py PROGRAM WORD..
 
@@ -7,6 +7,7 @@ The status is 0 if help was shown, 2 if the words are refused, and 100 if only t
 or a subcommand is unknown, or an argument lacks. What else is wrong only the program knows.
 """
 
+import json
 import re
 import sys
 from typing import NoReturn
@@ -14,7 +15,7 @@ from typing import NoReturn
 from manual import Help
 from tree import TOP
 
-PAGE = f"{TOP}/docs/COMMANDS.md"
+HELPS = f"{TOP}/packaging/help.json"
 SHOWN, REFUSED, UNKNOWN = 0, 2, 100
 
 
@@ -23,9 +24,9 @@ class Done(Exception):
 
 
 def texts() -> dict[str, str]:
-    """What each command and subcommand of the page prints for --help."""
-    with open(PAGE, encoding="utf-8") as it:
-        return dict(re.findall(r"^## ([^\n]+)\n\n```\n(.*?)^```$", it.read(), re.MULTILINE | re.DOTALL))
+    """What each command and subcommand prints for --help."""
+    with open(HELPS, encoding="utf-8") as it:
+        return dict(json.load(it))
 
 
 def refuse(said: str, told: Help) -> NoReturn:
@@ -40,7 +41,7 @@ def show(text: str) -> NoReturn:
 
 
 def look_at(call: str, words: list[str], kept: dict[str, str]) -> None:
-    """Answers the words of a command or subcommand, if the page can."""
+    """Answers the words of a command or subcommand, if it can be known."""
     told = Help(kept[call])
     values = {
         it: entry.count("<")
