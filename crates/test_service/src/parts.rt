@@ -1,5 +1,5 @@
 //! The parts that a farm is made of, out of memory: a refused call changes nothing, and the second does what the first would
-//! have done. `tests/service_refusals` refuses each allocation in turn.
+//! have done. `tests/test_service.py` refuses each allocation in turn.
 
 use crate::plans::{TrialPlan, plan_of};
 use bootstrap::{BootFault, LinkNumber, Memory, Node, Packet, boot_message};
