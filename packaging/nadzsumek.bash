@@ -26,6 +26,7 @@ _nadzsumek_options() {
     class\ change) echo '--nodes --hosts' ;;
     class\ finish) echo '--remove' ;;
     class\ check) echo '--csv --html' ;;
+    class\ web) echo '--listen --address --cert --key' ;;
     class\ wall) echo '--seconds --once' ;;
   esac
 }
@@ -55,6 +56,7 @@ _nadzsumek_values() {
     class\ add) echo '--students' ;;
     class\ change) echo '--nodes --hosts' ;;
     class\ check) echo '--csv --html' ;;
+    class\ web) echo '--listen --address --cert --key' ;;
     class\ wall) echo '--seconds' ;;
   esac
 }
@@ -62,7 +64,7 @@ _nadzsumek_values() {
 _nadzsumek_words() {
   case $1 in
     lab) echo 'replay plan trace assemble disassemble occam rows why film expand run debug' ;;
-    class) echo 'start serve stop status add remove change rename finish verify check wall' ;;
+    class) echo 'start serve stop status add remove change rename finish verify check web wall' ;;
   esac
 }
 

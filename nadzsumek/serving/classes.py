@@ -201,6 +201,15 @@ ORDERS: dict[str, tuple[Callable[..., int], str, str]] = {
         "course ada-lovelace ada-lovelace.replay",
     ),
 }
+
+
+def web(words: list[str]) -> int:
+    """Serves pages for the students, by what only they want."""
+    from ..web.command import pages
+
+    return pages(words)
+
+
 # Those that read their words by themselves.
 MORE_ORDERS: dict[str, Callable[[list[str]], int]] = {
     "serve": lambda words: serve(*words),
@@ -209,6 +218,7 @@ MORE_ORDERS: dict[str, Callable[[list[str]], int]] = {
     "finish": finish,
     "check": check,
     "wall": wall,
+    "web": web,
 }
 
 
@@ -232,6 +242,8 @@ a class that is there:
   class check DIR EXERCISE PROGRAMS
                               tries each student's program in an exercise, in farms of its own, and prints a table; also for
                               a spreadsheet with --csv FILE, and as a page with --html FILE
+  class web DIR               serves a page for each student, and one for the teacher, until it is stopped; the addresses are
+                              beside the sheets. See class web --help
   class wall DIR FILE         writes a page with what each student's nodes wait for, again every few seconds (--seconds N), or
                               once with --once
 """
@@ -256,6 +268,8 @@ class --students NAMES.txt --nodes N [--hosts H] [--memory M] [--limit L] [--roo
        class finish [--remove] DIR [ARCHIVE]
        class verify DIR NAME FILE
        class check [--csv FILE] [--html FILE] DIR EXERCISE PROGRAMS
+       class web [--listen ADDRESS:PORT] [--address URL] [--cert FILE --key FILE]
+                 [--new NAME|--new-teacher] DIR
        class wall [--seconds N] [--once] DIR FILE""",
     )
     add_version(parser)

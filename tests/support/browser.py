@@ -26,9 +26,11 @@ class PageFailed(Exception):
 
 
 class Browser:
-    """A browser with one page. Whatever the page's script throws is kept in `faults`."""
+    """A browser with one page. Whatever the page's script throws is kept in `faults`, and what it asks for elsewhere than at the
+    places that are named."""
 
-    def __init__(self) -> None:
+    def __init__(self, *places: str) -> None:
+        self.places = ("file:", "about:", *places)
         self.folder = tempfile.TemporaryDirectory(ignore_cleanup_errors=True)
         asks, self.asked = os.pipe()
         self.told, tells = os.pipe()
@@ -94,7 +96,7 @@ class Browser:
         method, more = message.get("method"), message.get("params", {})
         if method == "Runtime.exceptionThrown":
             self.faults.append(json.dumps(more["exceptionDetails"].get("exception", {}).get("description", more)))
-        elif method == "Network.requestWillBeSent" and not more["request"]["url"].startswith("file:"):
+        elif method == "Network.requestWillBeSent" and not more["request"]["url"].startswith(self.places):
             self.faults.append(f"the page asks for {more['request']['url']}")
 
     def ask(self, method: str, **words: Any) -> Any:
@@ -125,6 +127,19 @@ class Browser:
                 raise PageFailed(f"{path} isn't open after {SECONDS} s")
             time.sleep(0.01)
         return time.monotonic() - begun
+
+    def visit(self, address: str, is_there: str) -> None:
+        """Goes to a page of a server, and waits until an expression is true in it."""
+        self.ask("Page.navigate", url=address)
+        self.wait_for(is_there)
+
+    def wait_for(self, expression: str) -> None:
+        """Waits until an expression is true in the page."""
+        until = time.monotonic() + SECONDS
+        while not self.look(f"Boolean({expression})"):
+            if time.monotonic() > until:
+                raise PageFailed(f"{expression} isn't so after {SECONDS} s")
+            time.sleep(0.05)
 
     def look(self, expression: str) -> Any:
         """The value of an expression in the page."""

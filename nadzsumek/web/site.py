@@ -1,0 +1,285 @@
+"""The site of a class: who comes in, what is answered, and what bounds it."""
+
+from __future__ import annotations
+
+import asyncio
+import contextlib
+import json
+import os
+import time
+from collections.abc import Awaitable, Callable
+from functools import partial
+from typing import Any
+from weakref import WeakSet
+
+from aiohttp import WSMsgType, web
+
+from ..farm import Farm
+from ..mistakes.verbs import Wrong
+from ..serving.coming import person_of
+from ..serving.kept import class_in
+from ..serving.programs import ASSEMBLY, OCCAM
+from ..serving.status import told_by
+from ..serving.wall import EVENTS, FAULT, LINES, NOW, ROOM, USER, Nodes
+from .book import MOST_TEXT, TEACHER, Book
+from .desk import Desk
+
+STATIC = os.path.join(os.path.dirname(os.path.abspath(__file__)), "static")
+KINDS = {"page.css": "text/css", "student.js": "text/javascript", "teacher.js": "text/javascript"}
+COOKIE, COOKIE_SECONDS = "nadzsumek", 180 * 24 * 3600
+# What a request may hold, and how long its bytes are waited for.
+MOST_BODY, BODY_SECONDS = 4 * MOST_TEXT, 10
+# How long a connection may be there without a request, how often that is looked at, and how many connections there are at most.
+IDLE_SECONDS, LOOK_SECONDS, MOST_CONNECTIONS = 15, 1.0, 2000
+# How many pages of one student hear what the machine does, how often that is asked, how many programs of one student may wait, and
+# how many students' programs are run at the same time.
+MOST_HEARING, STATE_SECONDS, MOST_WAITING, MOST_RUNS = 4, 1.0, 8, 4
+# How often the teacher's page is made again at most.
+WALL_SECONDS = 3.0
+# Nothing is loaded from elsewhere, and no page of another site shows these.
+POLICY = (
+    "default-src 'none'; script-src 'self'; style-src 'self'; img-src 'self'; connect-src 'self'; frame-src 'self'; "
+    "form-action 'none'; base-uri 'none'; frame-ancestors 'self'"
+)
+# A film is a page by itself, which can do nothing as the student.
+FILM_POLICY = (
+    "sandbox allow-scripts; default-src 'none'; script-src 'unsafe-inline'; style-src 'unsafe-inline'; img-src data:"
+)
+HEADERS = {
+    "X-Content-Type-Options": "nosniff",
+    "Referrer-Policy": "no-referrer",
+    "Cache-Control": "no-store",
+    "Cross-Origin-Opener-Policy": "same-origin",
+}
+# The cookie isn't sent on a way that another site began, so the page is left before it is shown.
+ENTER = '<!DOCTYPE html><meta charset="utf-8"><meta http-equiv="refresh" content="0; url=/"><title>Nadzsumek</title>'
+STRANGER = (
+    "This page wants the address on your sheet: open that first. If it was made again since, ask for the new one.\n"
+)
+
+Handler = Callable[[web.Request], Awaitable[web.StreamResponse]]
+
+
+def text_of(name: str) -> str:
+    """A file of the site."""
+    with open(os.path.join(STATIC, name), encoding="utf-8") as it:
+        return it.read()
+
+
+def page(text: str, status: int = 200, policy: str = POLICY) -> web.Response:
+    return web.Response(text=text, status=status, content_type="text/html", headers={"Content-Security-Policy": policy})
+
+
+def plain(text: str, status: int) -> web.Response:
+    return web.Response(text=text, status=status)
+
+
+async def handled(handler: Handler, request: web.Request) -> web.StreamResponse:
+    """What a handler answers, also if it refuses."""
+    try:
+        return await handler(request)
+    except web.HTTPException as refusal:
+        return plain(refusal.text or "", refusal.status)
+
+
+class Site:
+    """The pages of one class. `hosts` are the names, with ports, by which the site may be called, and `is_secure` says whether
+    that is over TLS."""
+
+    def __init__(self, course: str, hosts: set[str], is_secure: bool) -> None:
+        self.course, self.hosts, self.is_secure = os.path.abspath(course), hosts, is_secure
+        self.book, self.farm, self.desks = Book(course), Farm(course), dict[str, Desk]()
+        self.hearing: dict[str, int] = {}
+        # the connections by which a whole request has come
+        self.seen = WeakSet[asyncio.Transport]()
+        self.runs, self.nodes = asyncio.Semaphore(MOST_RUNS), Nodes()
+        self.wall_turn, self.wall_at, self.wall_tiles = asyncio.Lock(), 0.0, list[dict[str, str]]()
+
+    def application(self) -> web.Application:
+        app = web.Application(middlewares=[self.guarded], client_max_size=MOST_BODY)
+        app.router.add_get("/enter/{secret}", self.enter)
+        app.router.add_get("/", self.front)
+        app.router.add_get("/files/{name}", self.file)
+        app.router.add_get("/live", self.live)
+        app.router.add_get("/film", self.film)
+        app.router.add_get("/text", self.text)
+        app.router.add_get("/wall", self.wall)
+        for path, work in (("/run", self.run), ("/line", self.line), ("/text", self.keep)):
+            app.router.add_post(path, partial(self.posted, work))
+        app.on_cleanup.append(self.close)
+        return app
+
+    async def close(self, _: web.Application) -> None:
+        for desk in self.desks.values():
+            await desk.close()
+        self.book.close()
+
+    @web.middleware
+    async def guarded(self, request: web.Request, handler: Handler) -> web.StreamResponse:
+        """Lets in who has a secret, and only if the page that asks is one of this site."""
+        if request.transport is not None:
+            self.seen.add(request.transport)
+        if request.host not in self.hosts:
+            answer: web.StreamResponse = plain("there is no such site here\n", 421)
+        elif request.path.startswith("/enter/"):
+            answer = await handled(handler, request)
+        else:
+            request["who"] = self.book.who(request.cookies.get(COOKIE, ""))
+            changes = request.method != "GET" or "Upgrade" in request.headers
+            origin = request.headers.get("Origin", "").partition("://")[2]
+            if request["who"] is None:
+                answer = plain(STRANGER, 401)
+            elif changes and origin != request.host:
+                answer = plain("this is asked by a page of another site\n", 403)
+            else:
+                answer = await handled(handler, request)
+        if not answer.prepared:
+            answer.headers.setdefault("Content-Security-Policy", POLICY)
+            answer.headers.update(HEADERS)
+        return answer
+
+    async def enter(self, request: web.Request) -> web.Response:
+        """Takes the secret out of the address bar and into a cookie."""
+        secret = request.match_info["secret"]
+        if self.book.who(secret) is None:
+            return plain(STRANGER, 401)
+        answer = page(ENTER)
+        answer.set_cookie(
+            COOKIE, secret, max_age=COOKIE_SECONDS, httponly=True, samesite="Strict", secure=self.is_secure, path="/"
+        )
+        return answer
+
+    async def front(self, request: web.Request) -> web.Response:
+        return page(text_of("teacher.html" if request["who"] == TEACHER else "student.html"))
+
+    async def file(self, request: web.Request) -> web.Response:
+        name = request.match_info["name"]
+        if name not in KINDS:
+            raise web.HTTPNotFound
+        return web.Response(text=text_of(name), content_type=KINDS[name])
+
+    def desk(self, request: web.Request) -> Desk:
+        """The machine that a request is about: the student's own. The teacher only looks."""
+        name = request["who"]
+        if name == TEACHER or name not in self.farm.users():
+            raise web.HTTPForbidden(text="this is for a student of the class\n")
+        return self.desks.setdefault(name, Desk(self.farm, name))
+
+    async def posted(
+        self, work: Callable[[Desk, dict[str, Any]], Awaitable[dict[str, Any]]], request: web.Request
+    ) -> web.Response:
+        """Answers a request with a body, which is a JSON object with texts."""
+        desk = self.desk(request)
+        try:
+            asked = json.loads(await asyncio.wait_for(request.read(), BODY_SECONDS))
+            if not isinstance(asked, dict) or not all(isinstance(it, str) for it in asked.values()):
+                raise ValueError
+            return web.json_response(await work(desk, asked))
+        except asyncio.TimeoutError:
+            raise web.HTTPRequestTimeout from None
+        except (ValueError, LookupError, RecursionError):
+            raise web.HTTPBadRequest(text="the request isn't as the page sends it\n") from None
+
+    async def run(self, desk: Desk, asked: dict[str, Any]) -> dict[str, Any]:
+        """Keeps the text, and runs it."""
+        await self.keep(desk, asked)
+        if desk.waiting >= MOST_WAITING:
+            raise web.HTTPTooManyRequests(text=f"{MOST_WAITING} programs of yours wait already\n")
+        desk.waiting += 1
+        try:
+            # a student's own programs wait for each other first, so that they hold up nobody else's
+            async with desk.running, self.runs:
+                return await desk.run(asked["kind"], asked["text"], asked["send"])
+        except Wrong as wrong:
+            return {"error": f"{wrong}"}
+        finally:
+            desk.waiting -= 1
+
+    async def line(self, desk: Desk, asked: dict[str, Any]) -> dict[str, Any]:
+        return await desk.line(asked["line"])
+
+    async def keep(self, desk: Desk, asked: dict[str, Any]) -> dict[str, Any]:
+        """Keeps a version of a text."""
+        kind, text = asked["kind"], asked["text"]
+        if f".{kind}" not in (OCCAM, ASSEMBLY) or len(text.encode()) > MOST_TEXT:
+            raise ValueError
+        self.book.keep(desk.name, kind, text)
+        return {}
+
+    async def text(self, request: web.Request) -> web.Response:
+        """The newest version of a student's text, for the student or the teacher."""
+        name = request.query.get("of", "") if request["who"] == TEACHER else self.desk(request).name
+        newest = self.book.newest(name)
+        return web.json_response({"name": name, **(newest._asdict() if newest else {})})
+
+    async def film(self, request: web.Request) -> web.Response:
+        desk = self.desk(request)
+        async with desk.running, self.runs:
+            status, text = await desk.film()
+        return page(text, policy=FILM_POLICY) if status == 0 else plain(f"{text}\n", 409)
+
+    async def live(self, request: web.Request) -> web.StreamResponse:
+        """Says what the machine does, each time that it has changed, until the page is left."""
+        desk = self.desk(request)
+        if self.hearing.get(desk.name, 0) >= MOST_HEARING:
+            raise web.HTTPTooManyRequests(text=f"{MOST_HEARING} pages are open already\n")
+        self.hearing[desk.name] = self.hearing.get(desk.name, 0) + 1
+        stream, last = web.WebSocketResponse(heartbeat=IDLE_SECONDS, max_msg_size=1024), None
+        try:
+            await stream.prepare(request)
+            while not stream.closed:
+                state = json.dumps(await desk.state())
+                if state != last:
+                    await asyncio.wait_for(stream.send_str(state), BODY_SECONDS)
+                    last = state
+                with contextlib.suppress(asyncio.TimeoutError):
+                    if (await stream.receive(STATE_SECONDS)).type != WSMsgType.TEXT:
+                        break
+        except (OSError, asyncio.TimeoutError):
+            pass
+        finally:
+            self.hearing[desk.name] -= 1
+        return stream
+
+    async def wall(self, request: web.Request) -> web.Response:
+        """A tile for each student, for the teacher."""
+        if request["who"] != TEACHER:
+            raise web.HTTPForbidden(text="this is for the teacher\n")
+        async with self.wall_turn:
+            if time.monotonic() > self.wall_at + WALL_SECONDS:
+                self.wall_tiles = await asyncio.to_thread(self.tiles)
+                self.wall_at = time.monotonic()
+        return web.json_response(self.wall_tiles)
+
+    def tiles(self) -> list[dict[str, str]]:
+        """What the teacher sees of each student. No machine is asked anything."""
+        farms = class_in(self.course).farms
+        return [
+            {
+                "name": row[USER],
+                "person": person_of(self.course, row[USER]),
+                "now": row[NOW],
+                "lines": row[LINES],
+                "events": row[EVENTS],
+                "room": row[ROOM],
+                "fault": row[FAULT],
+                "why": "\n".join(self.nodes.of(farm, row[USER])),
+            }
+            for farm, names in farms.items()
+            for row in told_by(farm, names)[0]
+        ]
+
+    async def watch(self, runner: web.AppRunner) -> None:
+        """Ends connections by which no whole request has come in time, and the newest if there are too many."""
+        since: dict[int, float] = {}
+        while True:
+            await asyncio.sleep(LOOK_SECONDS)
+            now, there = time.monotonic(), [*(runner.server.connections if runner.server else ())]
+            since = {id(it): since.get(id(it), now) for it in there}
+            for at, it in enumerate(there):
+                transport = it.transport
+                if transport is None or not isinstance(transport, asyncio.Transport):
+                    continue
+                is_late = transport not in self.seen and now > since[id(it)] + IDLE_SECONDS
+                if is_late or at >= MOST_CONNECTIONS:
+                    transport.abort()
