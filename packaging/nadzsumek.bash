@@ -27,6 +27,8 @@ _nadzsumek_options() {
     class\ finish) echo '--remove' ;;
     class\ check) echo '--csv --html' ;;
     class\ web) echo '--listen --address --cert --key' ;;
+    class\ submitted) echo '--csv' ;;
+    class\ marks) echo '--csv' ;;
     class\ wall) echo '--seconds --once' ;;
   esac
 }
@@ -57,6 +59,8 @@ _nadzsumek_values() {
     class\ change) echo '--nodes --hosts' ;;
     class\ check) echo '--csv --html' ;;
     class\ web) echo '--listen --address --cert --key' ;;
+    class\ submitted) echo '--csv' ;;
+    class\ marks) echo '--csv' ;;
     class\ wall) echo '--seconds' ;;
   esac
 }
@@ -64,7 +68,7 @@ _nadzsumek_values() {
 _nadzsumek_words() {
   case $1 in
     lab) echo 'replay plan trace assemble disassemble occam rows why film expand run debug' ;;
-    class) echo 'start serve stop status add remove change rename finish verify check web wall' ;;
+    class) echo 'start serve stop status add remove change rename finish verify check web submitted marks wall' ;;
   esac
 }
 

@@ -151,7 +151,7 @@ def test_exercises_are_marked() -> None:
         }
         assert [got[name][3] for name in ("ada-lovelace", "emile-borel", "eve", "fay", "hal")] == [
             "",
-            f"one word: line {line}: 07000000 is expected, and 06000000 came",
+            f"one word: line {line}: 7 is expected, and 6 came",
             "one word: it took more than 2000 Steps",
             "there is no program",
             "hal.s has more than 1048576 bytes",
@@ -171,14 +171,12 @@ def test_exercises_are_marked() -> None:
         got, _ = it.results(f"{EXERCISES}/sum.txt")
         # 3 - 4, 1 - 2, 200 - 100 and 9 - 1 are other bytes; after 9 alone nothing comes of either
         assert [got[name][2] for name in ("ada-lovelace", "emile-borel")] == [["ok"] * 4, ["wrong"] * 4]
-        assert got["emile-borel"][3].endswith(": 07 is expected, and ff came")
+        assert got["emile-borel"][3].endswith(": 7 is expected, and 255 came")
         it.write("ada-lovelace.s", TOTAL)
         it.write("emile-borel.s", TOTAL.replace("cj done", "cj again"))
         got, _ = it.results(f"{EXERCISES}/total")
         assert [got[name][2] for name in ("ada-lovelace", "emile-borel")] == [["ok"] * 3, ["wrong"] * 3]
-        assert got["emile-borel"][3].endswith(': 2a000000 "*\\x00\\x00\\x00" is expected, and nothing came') or got[
-            "emile-borel"
-        ][3].endswith(": 2a000000 is expected, and nothing came")
+        assert got["emile-borel"][3].endswith(": 42 is expected, and nothing came")
 
 
 def test_steps_are_bounded() -> None:
@@ -335,7 +333,7 @@ def test_tables_are_safe() -> None:
         assert page.rows[0] == ["student", "points", "steps", "a <i>greeting</i>"]
         assert [row[0].split("\n") for row in page.rows[1:]] == [["=1+1 <b>Ada</b>", "1 1 b Ada b.s"], ["Bob", "bob.s"]]
         cell = page.rows[2][3].split("\n")
-        assert (cell[0], cell[1]) == ("wrong", 'line 6: 68656c6c6f "hello" is expected, and 3d "=" came')
+        assert (cell[0], cell[1]) == ("wrong", 'line 6: "hello" is expected, and "=" came')
         assert "node 0 has ended" in page.rows[2][3]
         assert "fault 3" in page.rows[1][3]
         with open(f"{it.room}/out.csv", encoding="utf-8", newline="") as file:

@@ -15,7 +15,7 @@ import pytest
 from support import browser
 from support.pages import HOST, Pages
 from support.serving_trials import SECONDS
-from support.trials import contents, put, text_of
+from support.trials import TOP, contents, put, text_of
 
 NEXT = """CHAN OF BYTE from, to:
 PLACE from AT link0.in:
@@ -338,3 +338,63 @@ def test_lesson_in_a_browser(pages: Pages) -> None:
         it.wait_for("document.getElementById('text').textContent.length > 5")
         picture(it, "teacher")
         assert it.faults == []
+
+
+ADDS = """CHAN OF INT from, to:
+PLACE from AT link0.in:
+PLACE to AT link0.out:
+INT n:
+WHILE TRUE
+  SEQ
+    from ? n
+    to ! n + 1
+"""
+
+
+def test_exercises(pages: Pages) -> None:
+    """A program is tried in the teacher's own tests and handed in; what was handed in stays over a kill, and the marks have it."""
+    folder = f"{pages.folder}/exercises"
+    os.makedirs(folder)
+    put(f"{folder}/successor.txt", text_of(f"{TOP}/examples/exercises/successor.txt"))
+    put(f"{folder}/broken.txt", "nonsense\n")
+    told = pages.get("student-1", "/exercises").told()
+    assert [(it["name"], it["title"], it["closed"], it["submitted"]) for it in told] == [
+        ("successor", "Add one to each word", False, None)
+    ]
+    asked = {"exercise": "successor", "kind": "occ", "text": ADDS.replace("n + 1", "n")}
+    told = pages.post("student-1", "/check", **asked).told()
+    assert (told["points"], told["of"], told["submitted"]) == (0, 5, False)
+    assert told["tests"][0]["remark"].endswith(": 7 is expected, and 6 came")
+    told = pages.post("student-1", "/check", **{**asked, "text": "nonsense\n"}).told()
+    assert (told["points"], told["remark"].startswith("line 1, column ")) == (0, True)
+    assert pages.post("student-1", "/submit", **asked).told()["submitted"]
+    with concurrent.futures.ThreadPoolExecutor(2) as pool:
+        asked["text"] = ADDS
+        both = [pool.submit(pages.post, name, "/submit", **asked) for name in ("student-1", "student-2")]
+        assert [it.result().told()["points"] for it in both] == [5, 5]
+    pages.web.kill()
+    pages.web.wait()
+    assert pages.web.stdout
+    pages.web.stdout.close()
+    pages.web = pages.served()
+    told = pages.get("student-1", "/exercises").told()
+    assert (told[0]["submitted"]["points"], told[0]["submitted"]["of"]) == (5, 5)
+    put(f"{folder}/successor.closed", "")
+    assert "closed" in pages.post("student-3", "/submit", **asked).told()["error"]
+    assert pages.post("student-3", "/check", **asked).told()["points"] == 5
+    assert (
+        "there is no such exercise"
+        in pages.post("student-3", "/submit", **{**asked, "exercise": "../x"}).told()["error"]
+    )
+    done = pages.call("marks", "--csv", f"{pages.room.name}/marks.csv", pages.folder)
+    assert (done.returncode, done.stderr) == (0, "")
+    assert [it.split() for it in done.stdout.splitlines()] == [
+        ["student", "name", "broken", "successor", "points"],
+        ["student-1", "Student", "1", "-", "5", "5"],
+        ["student-2", "Student", "2", "-", "5", "5"],
+        ["student-3", "Student", "3", "-", "-", "0"],
+    ]
+    assert text_of(f"{pages.room.name}/marks.csv").splitlines()[1] == "student-1,Student 1,-,5,5"
+    rows = [it.split() for it in pages.call("submitted", pages.folder).stdout.splitlines()]
+    assert [(it[0], it[1], it[4], it[5]) for it in rows[1:]][:1] == [("student-1", "successor", "0", "5")]
+    assert sorted((it[0], it[4]) for it in rows[2:]) == [("student-1", "5"), ("student-2", "5")]

@@ -20,6 +20,7 @@ from .folder import Refused, build, program, put_whole
 from .kept import class_in
 from .marks import as_csv, as_page, as_table
 from .plans import VERSION, user_name
+from .values import as_letters, as_numbers
 
 if TYPE_CHECKING:
     from .exercises import Exercise, Test
@@ -178,6 +179,14 @@ def shown(content: bytes) -> str:
     return f"{content.hex()}{more}"
 
 
+def said(content: bytes, form: str) -> str:
+    """Bytes as the exercise writes them, if they can be written so."""
+    if form == "byte" and content:
+        return " ".join(f"{it}" for it in content)
+    written_so = {"word": as_numbers, "text": as_letters}.get(form)
+    return (content and written_so and written_so(content)) or shown(content)
+
+
 def wrong_in(test: Test, answers: list[str]) -> str | None:
     """What is the first that a test expects otherwise; none if all came."""
     told = iter([it for it in answers if it.split(" ")[1:2] in (["collect"], ["look"])])
@@ -188,7 +197,9 @@ def wrong_in(test: Test, answers: list[str]) -> str | None:
         if line.kind == "bytes":
             came = b"" if words[3] == "-" or not re.fullmatch(r"([0-9a-f]{2})+", words[3]) else bytes.fromhex(words[3])
             if isinstance(line.wanted, bytes) and came != line.wanted:
-                return f"line {line.number}: {shown(line.wanted)} is expected, and {shown(came)} came"
+                return (
+                    f"line {line.number}: {said(line.wanted, line.form)} is expected, and {said(came, line.form)} came"
+                )
         else:
             state = " ".join(words[3 : words.index("overruns")]) if "overruns" in words else "gone"
             if state != line.wanted and not (line.wanted == "halted" and state.startswith("halted ")):

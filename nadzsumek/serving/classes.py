@@ -210,6 +210,18 @@ def web(words: list[str]) -> int:
     return pages(words)
 
 
+def handed_in(words: list[str]) -> int:
+    from ..web.handing import submitted
+
+    return submitted(words)
+
+
+def marked(words: list[str]) -> int:
+    from ..web.handing import marks
+
+    return marks(words)
+
+
 # Those that read their words by themselves.
 MORE_ORDERS: dict[str, Callable[[list[str]], int]] = {
     "serve": lambda words: serve(*words),
@@ -219,6 +231,8 @@ MORE_ORDERS: dict[str, Callable[[list[str]], int]] = {
     "check": check,
     "wall": wall,
     "web": web,
+    "submitted": handed_in,
+    "marks": marked,
 }
 
 
@@ -244,6 +258,8 @@ a class that is there:
                               a spreadsheet with --csv FILE, and as a page with --html FILE
   class web DIR               serves a page for each student, and one for the teacher, until it is stopped; the addresses are
                               beside the sheets. See class web --help
+  class submitted DIR         shows what students have handed in at their pages
+  class marks DIR             shows each student's points, by what was handed in last; both also with --csv FILE
   class wall DIR FILE         writes a page with what each student's nodes wait for, again every few seconds (--seconds N), or
                               once with --once
 """
@@ -270,6 +286,7 @@ class --students NAMES.txt --nodes N [--hosts H] [--memory M] [--limit L] [--roo
        class check [--csv FILE] [--html FILE] DIR EXERCISE PROGRAMS
        class web [--listen ADDRESS:PORT] [--address URL] [--cert FILE --key FILE]
                  [--new NAME|--new-teacher] DIR
+       class submitted|marks [--csv FILE] DIR
        class wall [--seconds N] [--once] DIR FILE""",
     )
     add_version(parser)

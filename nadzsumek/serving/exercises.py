@@ -35,6 +35,14 @@ WORDS = (*HEAD, "steps", "before", "test", *OF_TEST, *DONE)
 STATES = ("booting", "running", "idle", "halted")
 
 
+def form_of(words: list[str]) -> str:
+    """The form in which values are written, if all have one."""
+    forms = {
+        "text" if it.startswith('"') else it for it in words if it.startswith('"') or it in ("word", "byte", "hex")
+    }
+    return forms.pop() if len(forms) == 1 else ""
+
+
 def is_own(name: str) -> bool:
     """Whether a program is the student's."""
     return (
@@ -46,12 +54,14 @@ def is_own(name: str) -> bool:
 
 class Line(NamedTuple):
     """A line of a test: its number in the text, the line that is sent, if any, and what must come: of a host bytes, of a node a
-    state."""
+    state. Bytes have the form in which they are written, `word`, `byte` or `text`; none if that is another, or several.
+    """
 
     number: int
     sent: str
     kind: str = ""
     wanted: bytes | str = b""
+    form: str = ""
 
 
 class Test(NamedTuple):
@@ -174,7 +184,7 @@ class Reader:
             return Line(self.number, f"write {numbers[0]} {bytes_of(words[1:]).hex()}")
         if first == "expect":
             wanted = b"" if words[1:] == ["nothing"] else bytes_of(words[1:])
-            return Line(self.number, f"collect {numbers[0]}", "bytes", wanted)
+            return Line(self.number, f"collect {numbers[0]}", "bytes", wanted, form_of(words[1:]))
         if first == "state":
             if words[1] not in STATES or len(words) > (3 if words[1] == "halted" else 2):
                 raise Unfit(f"a state is {', '.join(STATES)}, and a fault may be after halted")

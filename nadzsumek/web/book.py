@@ -24,6 +24,10 @@ CREATE TABLE IF NOT EXISTS holder (name TEXT PRIMARY KEY, secret BLOB NOT NULL U
 CREATE TABLE IF NOT EXISTS version (
     number INTEGER PRIMARY KEY, name TEXT NOT NULL, at REAL NOT NULL, kind TEXT NOT NULL, text TEXT NOT NULL
 ) STRICT;
+CREATE TABLE IF NOT EXISTS submission (
+    number INTEGER PRIMARY KEY, name TEXT NOT NULL, exercise TEXT NOT NULL, at REAL NOT NULL, kind TEXT NOT NULL,
+    text TEXT NOT NULL, hash TEXT NOT NULL, points INTEGER NOT NULL, most INTEGER NOT NULL, remark TEXT NOT NULL
+) STRICT;
 CREATE INDEX IF NOT EXISTS newest ON version (name, number);
 """
 
@@ -34,6 +38,21 @@ class Version(NamedTuple):
     at: float
     kind: str
     text: str
+
+
+class Submission(NamedTuple):
+    """A program that was handed in: of whom, for which exercise, when, in which language, its text and the SHA-256 of that, the points
+    that it has of those that there are, and what is said of it."""
+
+    name: str
+    exercise: str
+    at: float
+    kind: str
+    text: str
+    hash: str
+    points: int
+    most: int
+    remark: str
 
 
 def hashed(secret: str) -> bytes:
@@ -93,3 +112,24 @@ class Book:
             "SELECT at, kind, text FROM version WHERE name = ? ORDER BY number DESC LIMIT 1", [name]
         ).fetchone()
         return None if row is None else Version(*row)
+
+    def submit(self, it: Submission) -> None:
+        """Keeps what was handed in. All of it stays, also what was handed in before."""
+        self.base.execute(
+            "INSERT INTO submission (name, exercise, at, kind, text, hash, points, most, remark) VALUES"
+            " (?, ?, ?, ?, ?, ?, ?, ?, ?)",
+            it,
+        )
+
+    def submissions(self, name: str | None = None) -> list[Submission]:
+        """What was handed in, by all or by one, the oldest first."""
+        rows = self.base.execute(
+            "SELECT name, exercise, at, kind, text, hash, points, most, remark FROM submission"
+            " WHERE name = ? OR ? IS NULL ORDER BY number",
+            [name, name],
+        )
+        return [Submission(*row) for row in rows]
+
+    def count_submissions(self, name: str) -> int:
+        """How often a student has handed something in."""
+        return int(self.base.execute("SELECT count(*) FROM submission WHERE name = ?", [name]).fetchone()[0])

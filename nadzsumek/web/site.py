@@ -7,7 +7,7 @@ import contextlib
 import json
 import os
 import time
-from collections.abc import Awaitable, Callable
+from collections.abc import AsyncIterator, Awaitable, Callable
 from functools import partial
 from typing import Any
 from weakref import WeakSet
@@ -17,12 +17,14 @@ from aiohttp import WSMsgType, web
 from ..farm import Farm
 from ..mistakes.verbs import Wrong
 from ..serving.coming import person_of
+from ..serving.folder import Refused
 from ..serving.kept import class_in
 from ..serving.programs import ASSEMBLY, OCCAM
 from ..serving.status import told_by
 from ..serving.wall import EVENTS, FAULT, LINES, NOW, ROOM, USER, Nodes
 from .book import MOST_TEXT, TEACHER, Book
 from .desk import Desk
+from .handing import MOST_SUBMISSIONS, exercise_of, is_closed, listed, submission_of, told_of, tried
 
 STATIC = os.path.join(os.path.dirname(os.path.abspath(__file__)), "static")
 KINDS = {"page.css": "text/css", "student.js": "text/javascript", "teacher.js": "text/javascript"}
@@ -58,6 +60,8 @@ STRANGER = (
 )
 
 Handler = Callable[[web.Request], Awaitable[web.StreamResponse]]
+# What a page asks with a body is answered by such a call.
+Work = Callable[[Desk, dict[str, Any]], Awaitable[dict[str, Any]]]
 
 
 def text_of(name: str) -> str:
@@ -104,7 +108,15 @@ class Site:
         app.router.add_get("/film", self.film)
         app.router.add_get("/text", self.text)
         app.router.add_get("/wall", self.wall)
-        for path, work in (("/run", self.run), ("/line", self.line), ("/text", self.keep)):
+        app.router.add_get("/exercises", self.exercises)
+        works: dict[str, Work] = {
+            "/run": self.run,
+            "/line": self.line,
+            "/text": self.keep,
+            "/check": partial(self.check, False),
+            "/submit": partial(self.check, True),
+        }
+        for path, work in works.items():
             app.router.add_post(path, partial(self.posted, work))
         app.on_cleanup.append(self.close)
         return app
@@ -165,9 +177,7 @@ class Site:
             raise web.HTTPForbidden(text="this is for a student of the class\n")
         return self.desks.setdefault(name, Desk(self.farm, name))
 
-    async def posted(
-        self, work: Callable[[Desk, dict[str, Any]], Awaitable[dict[str, Any]]], request: web.Request
-    ) -> web.Response:
+    async def posted(self, work: Work, request: web.Request) -> web.Response:
         """Answers a request with a body, which is a JSON object with texts."""
         desk = self.desk(request)
         try:
@@ -183,17 +193,52 @@ class Site:
     async def run(self, desk: Desk, asked: dict[str, Any]) -> dict[str, Any]:
         """Keeps the text, and runs it."""
         await self.keep(desk, asked)
+        async with self.turn(desk):
+            try:
+                return await desk.run(asked["kind"], asked["text"], asked["send"])
+            except Wrong as wrong:
+                return {"error": f"{wrong}"}
+
+    async def check(self, is_last: bool, desk: Desk, asked: dict[str, Any]) -> dict[str, Any]:
+        """Keeps the text, and tries it in an exercise; if it is the last word, it is handed in."""
+        await self.keep(desk, asked)
+        name, kind, text = asked["exercise"], asked["kind"], asked["text"]
+        try:
+            if is_last and is_closed(self.course, name):
+                raise Refused("this exercise is closed: nothing more is handed in")
+            if is_last and self.book.count_submissions(desk.name) >= MOST_SUBMISSIONS:
+                raise Refused(f"you have handed in {MOST_SUBMISSIONS} times, and that is the most")
+            exercise = exercise_of(self.course, name)
+            async with self.turn(desk):
+                row = await asyncio.to_thread(tried, exercise, desk.name, kind, text)
+        except Refused as refused:
+            return {"error": f"{refused}"}
+        if is_last:
+            self.book.submit(submission_of(exercise, row, name, kind, text))
+        return {**told_of(exercise, row), "submitted": is_last}
+
+    @contextlib.asynccontextmanager
+    async def turn(self, desk: Desk) -> AsyncIterator[None]:
+        """Waits until a program of a student may be run. A student's own programs wait for each other first, so that they hold up
+        nobody else's."""
         if desk.waiting >= MOST_WAITING:
             raise web.HTTPTooManyRequests(text=f"{MOST_WAITING} programs of yours wait already\n")
         desk.waiting += 1
         try:
-            # a student's own programs wait for each other first, so that they hold up nobody else's
             async with desk.running, self.runs:
-                return await desk.run(asked["kind"], asked["text"], asked["send"])
-        except Wrong as wrong:
-            return {"error": f"{wrong}"}
+                yield
         finally:
             desk.waiting -= 1
+
+    async def exercises(self, request: web.Request) -> web.Response:
+        """The exercises of the class, each with what the student has handed in last."""
+        desk = self.desk(request)
+        last = {it.exercise: it for it in self.book.submissions(desk.name)}
+        told = await asyncio.to_thread(listed, self.course)
+        for it in told:
+            one = last.get(it["name"])
+            it["submitted"] = {"at": one.at, "points": one.points, "of": one.most} if one else None
+        return web.json_response(told)
 
     async def line(self, desk: Desk, asked: dict[str, Any]) -> dict[str, Any]:
         return await desk.line(asked["line"])
@@ -214,7 +259,7 @@ class Site:
 
     async def film(self, request: web.Request) -> web.Response:
         desk = self.desk(request)
-        async with desk.running, self.runs:
+        async with self.turn(desk):
             status, text = await desk.film()
         return page(text, policy=FILM_POLICY) if status == 0 else plain(f"{text}\n", 409)
 

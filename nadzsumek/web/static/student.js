@@ -13,7 +13,7 @@ WHILE TRUE
 // How long after the last key a text is kept, and how soon a lost connection is tried again, in milliseconds.
 const KEEP_AFTER = 1500, FIRST_RETRY = 500, MOST_RETRY = 10000;
 const $ = (id) => document.getElementById(id);
-let marks = {}, keeping = 0, retry = FIRST_RETRY, isRunning = false;
+let marks = {}, exercises = {}, keeping = 0, retry = FIRST_RETRY, isRunning = false;
 
 async function post(path, asked) {
   let answer;
@@ -56,15 +56,46 @@ function showMistakes(mistakes) {
   }));
 }
 
+function rowOf(head, text) {
+  const row = document.createElement("tr"), name = document.createElement("th"), value = document.createElement("td");
+  name.textContent = head;
+  value.textContent = text;
+  row.append(name, value);
+  return row;
+}
+
 function showCame(came) {
   const rows = [["bytes", came.count], ["letters", came.letters], ["numbers", came.numbers], ["hex", came.hex]];
-  $("came").replaceChildren(...rows.filter(([, it]) => it || it === 0).map(([head, it]) => {
-    const row = document.createElement("tr"), name = document.createElement("th"), value = document.createElement("td");
-    name.textContent = head;
-    value.textContent = it;
-    row.append(name, value);
-    return row;
-  }));
+  $("came").replaceChildren(...rows.filter(([, it]) => it || it === 0).map(([head, it]) => rowOf(head, it)));
+}
+
+function showExercise() {
+  const it = exercises[$("exercise").value];
+  $("task").textContent = it.task;
+  $("tests").replaceChildren();
+  $("submit").disabled = it.closed;
+  const last = it.submitted, when = last && new Date(last.at * 1000).toLocaleString();
+  $("submitted").textContent = (last ? `handed in at ${when}: ${last.points} of ${last.of} points` : "not handed in yet") + (it.closed ? "; closed" : "");
+}
+
+async function showExercises(chosen) {
+  const told = await (await fetch("/exercises")).json();
+  exercises = Object.fromEntries(told.map((it) => [it.name, it]));
+  $("handing").hidden = !told.length;
+  $("exercise").replaceChildren(...told.map((it) => new Option(it.title, it.name)));
+  if (chosen) $("exercise").value = chosen;
+  if (told.length) showExercise();
+}
+
+async function hand(path) {
+  const exercise = $("exercise").value;
+  for (const id of ["check", "submit"]) $(id).disabled = true;
+  const told = await post(path, { exercise, kind: $("kind").value, text: $("text").value });
+  if (told.submitted) await showExercises(exercise);
+  for (const id of ["check", "submit"]) $(id).disabled = exercises[exercise].closed && id === "submit";
+  const rows = (told.tests || []).filter((it) => it.result !== "-").map((it) => rowOf(it.name, it.result === "ok" ? "ok" : `${it.result}: ${it.remark}\n${it.why}`));
+  const points = told.error ?? `${told.points} of ${told.of}${rows.length ? "" : `: ${told.remark}`}`;
+  $("tests").replaceChildren(...rows, rowOf("points", points));
 }
 
 async function run() {
@@ -143,6 +174,10 @@ async function begin() {
     $("shown").src = `/film?${Date.now()}`;
   };
   $("asking").onsubmit = ask;
+  $("exercise").onchange = showExercise;
+  $("check").onclick = () => hand("/check");
+  $("submit").onclick = () => hand("/submit");
+  showExercises();
   number();
   hear();
 }
