@@ -68,7 +68,7 @@ _nadzsumek_values() {
 _nadzsumek_words() {
   case $1 in
     lab) echo 'replay plan trace assemble disassemble occam rows why film expand run debug' ;;
-    class) echo 'start serve stop status add remove change rename finish verify check web submitted marks wall' ;;
+    class) echo 'start serve stop status add remove change rename finish verify check web exercises submitted marks wall' ;;
   esac
 }
 

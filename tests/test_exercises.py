@@ -7,6 +7,7 @@ import os
 import shutil
 import signal
 import subprocess
+import tempfile
 import time
 from typing import Any
 
@@ -37,27 +38,6 @@ again:  ldlp first
         {sum}
         outbyte
         j again
-"""
-TOTAL = """        local word sum
-        ajw 8
-        ldc 0
-        stl sum
-again:  ldlp word
-        mint
-        ldnlp 5
-        ldc 4
-        in
-        ldl word
-        cj done
-        ldl word
-        ldl sum
-        add
-        stl sum
-        j again
-done:   mint
-        ldl sum
-        outword
-        stopp
 """
 ENDLESS = "        ajw 4\nloop:   j loop\n"
 
@@ -172,8 +152,9 @@ def test_exercises_are_marked() -> None:
         # 3 - 4, 1 - 2, 200 - 100 and 9 - 1 are other bytes; after 9 alone nothing comes of either
         assert [got[name][2] for name in ("ada-lovelace", "emile-borel")] == [["ok"] * 4, ["wrong"] * 4]
         assert got["emile-borel"][3].endswith(": 7 is expected, and 255 came")
-        it.write("ada-lovelace.s", TOTAL)
-        it.write("emile-borel.s", TOTAL.replace("cj done", "cj again"))
+        total = text_of(f"{EXERCISES}/total/solution.s")
+        it.write("ada-lovelace.s", total)
+        it.write("emile-borel.s", total.replace("cj done", "cj again"))
         got, _ = it.results(f"{EXERCISES}/total")
         assert [got[name][2] for name in ("ada-lovelace", "emile-borel")] == [["ok"] * 3, ["wrong"] * 3]
         assert got["emile-borel"][3].endswith(": 42 is expected, and nothing came")
@@ -404,3 +385,24 @@ def test_the_wall_is_no_event() -> None:
             1,
             f"class: there can be no file {it.room.name}/no/wall.html: choose another\n",
         )
+
+
+def test_examples_find_their_wrong_programs() -> None:
+    """Each exercise of the examples has a solution with all points, and finds each of its wrong programs; one that is planted among
+    the solutions is found too."""
+    done = run_text([f"{TOP}/class", "exercises", EXERCISES], timeout=300)
+    assert (done.returncode, done.stderr) == (0, ""), done.stdout
+    assert done.stdout.endswith(" programs tried, 0 wrong\n") and done.stdout.startswith("13 exercises, ")
+    with tempfile.TemporaryDirectory() as room:
+        shutil.copytree(f"{EXERCISES}/twice", f"{room}/twice")
+        shutil.copy(f"{room}/twice/wrong-once.occ", f"{room}/twice/solution-too.occ")
+        shutil.copy(f"{room}/twice/solution.occ", f"{room}/twice/wrong-too.occ")
+        done = run_text([f"{TOP}/class", "exercises", room])
+    assert (done.returncode, done.stdout.splitlines()) == (
+        1,
+        [
+            "twice: solution-too.occ has 0 of 3 points",
+            "twice: wrong-too.occ has 3 of 3 points",
+            "1 exercises, 5 programs tried, 2 wrong",
+        ],
+    )

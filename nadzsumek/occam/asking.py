@@ -114,8 +114,12 @@ def run_lab(program: str, words: list[str]) -> NoReturn:
 
 
 def start(program: str, words: list[str]) -> NoReturn:
-    """Runs the lab with these words. The film that it prints becomes a page, unless the words ask for JSON; and programs are run
-    here, by a plan and a script that are made for them."""
+    """Runs the lab with these words. The film that it prints becomes a page, unless the words ask for JSON. Programs are run and
+    checked here, by plans and scripts that are made for them."""
+    if words[:1] == ["check"]:
+        from nadzsumek.web.handing import own_check
+
+        sys.exit(own_check(words[1:]))
     if words[:1] == ["run"] and any(it in ("-h", "--help") or it.endswith(PROGRAMS) for it in words):
         from nadzsumek.run import main
 

@@ -222,6 +222,12 @@ def marked(words: list[str]) -> int:
     return marks(words)
 
 
+def exercises(words: list[str]) -> int:
+    from ..web import handing
+
+    return handing.exercises(words)
+
+
 # Those that read their words by themselves.
 MORE_ORDERS: dict[str, Callable[[list[str]], int]] = {
     "serve": lambda words: serve(*words),
@@ -233,6 +239,7 @@ MORE_ORDERS: dict[str, Callable[[list[str]], int]] = {
     "web": web,
     "submitted": handed_in,
     "marks": marked,
+    "exercises": exercises,
 }
 
 
@@ -258,6 +265,7 @@ a class that is there:
                               a spreadsheet with --csv FILE, and as a page with --html FILE
   class web DIR               serves a page for each student, and one for the teacher, until it is stopped; the addresses are
                               beside the sheets. See class web --help
+  class exercises FOLDER      tries each exercise of a folder against its own solutions and wrong programs
   class submitted DIR         shows what students have handed in at their pages
   class marks DIR             shows each student's points, by what was handed in last; both also with --csv FILE
   class wall DIR FILE         writes a page with what each student's nodes wait for, again every few seconds (--seconds N), or
@@ -286,6 +294,7 @@ class --students NAMES.txt --nodes N [--hosts H] [--memory M] [--limit L] [--roo
        class check [--csv FILE] [--html FILE] DIR EXERCISE PROGRAMS
        class web [--listen ADDRESS:PORT] [--address URL] [--cert FILE --key FILE]
                  [--new NAME|--new-teacher] DIR
+       class exercises FOLDER
        class submitted|marks [--csv FILE] DIR
        class wall [--seconds N] [--once] DIR FILE""",
     )
