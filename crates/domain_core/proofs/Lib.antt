@@ -5,6 +5,7 @@ pub mod AnswersInHistory
 pub mod Commits
 pub mod Runs
 pub mod Kept
+pub mod Reserved
 pub mod CopiedEntries
 -- tickets
 pub mod Tickets

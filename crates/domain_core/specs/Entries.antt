@@ -1,5 +1,5 @@
 -- How a journal keeps its entries: small ones, and apart from them what looks saw.
-use Rattle.std.specs.Prelude.{ℕ, ◌<◌, ◌≤◌, Bool, true, false, List, [], length, slice_index_or}
+use Rattle.std.specs.Prelude.{ℕ, zero, suc, ◌<◌, ◌≤◌, ◌-◌, ◌⊎◌, ◌≡◌, Bool, true, false, List, [], length, slice_index_or}
 use Rattle.bootstrap.specs.declared.seen.Activity.TheVariants.{Booting}
 use Rattle.bootstrap.specs.declared.seen.Seen.{Seen}
 use Rattle.domain_core.specs.declared.entries.SmallEntry.{SmallEntry}
@@ -26,11 +26,19 @@ pub record EntriesValue : Type 0 where
 abbrev pub journal_of : EntriesValue → JournalValue
 journal_of e = record { entries = e.entries; reserved = e.reserved }
 
--- memory is reserved for this number of entries, whether they are looks or not: there are no more looks than entries
+-- memory is reserved for this number of entries, whether they are looks or not: there are no more looks than entries,
+-- and no more entries than are reserved, if any are
 pub record AreReserved (reserved entries looks entry_capacity look_capacity : ℕ) : Type 0 where
   pub for_entries : reserved ≤ entry_capacity
   pub for_looks : reserved ≤ look_capacity
   pub fewer : looks ≤ entries
+  pub within : (reserved ≡ 0) ⊎ (entries ≤ reserved)
+
+-- how many more entries there may be: those that are left of the reserved ones, and if none are reserved, as many as
+-- the memory that was taken has places for
+abbrev pub entries_left : (reserved entries capacity : ℕ) → ℕ
+entries_left zero entries capacity = capacity - entries
+entries_left (suc reserved) entries capacity = suc reserved - entries
 
 -- the reply that a small one stands for
 abbrev pub reply_of : SmallReply → Reply
@@ -52,11 +60,11 @@ entry_of seen (One by asked answer) = entry.One by asked (reply_of answer)
 entry_of seen (Look by asked place) = entry.One by asked (reply.Look (slice_index_or seen place no_look))
 entry_of seen (Run by node last count) = entry.Run by node count last
 
--- what a look saw is kept at its place
+-- what a look saw is kept at its place, and a run has a Step
 abbrev pub IsStored : List Seen → SmallEntry → Type 0
 IsStored seen (One by asked answer) = Unit {0}
 IsStored seen (Look by asked place) = place < length seen
-IsStored seen (Run by node last count) = Unit {0}
+IsStored seen (Run by node last count) = 0 < count
 
 -- an event whose reply shows what a node is
 abbrev pub is_look : Event → Bool

@@ -1,5 +1,5 @@
 -- A journal: what was answered, in order.
-use Rattle.std.specs.Prelude.{ℕ, zero, suc, List, [], ◌∷◌, ◌++◌, map, replicate, Ok, ◌≡◌}
+use Rattle.std.specs.Prelude.{ℕ, zero, suc, List, [], ◌∷◌, ◌++◌, All, map, length, replicate, Ok, ◌≡◌, ◌<◌, ◌≤◌, ◌⊎◌}
 use Rattle.plan_rules.specs.Part.{PartData}
 use Rattle.t414_step.specs.declared.stepping.Stepped.{Stepped}
 use Rattle.t414_step.specs.declared.stepping.Stepped.TheVariants.{Ran}
@@ -36,6 +36,16 @@ expanded [] = []
 expanded (One by event reply ∷ entries) =
     record { call = record { by = by; event = event }; reply = reply } ∷ expanded entries
 expanded (Run by node count last ∷ entries) = steps by node count last ++ expanded entries
+
+-- an entry that stands for an event at the least
+abbrev pub IsNotEmpty : Entry → Type 0
+IsNotEmpty (One by event reply) = Unit {0}
+IsNotEmpty (Run by node count last) = 0 < count
+
+-- no entry of a journal is empty, and there are no more than memory is reserved for, if it is reserved for any
+pub record IsKeptWithin (entries : List Entry) (reserved : ℕ) : Type 0 where
+  pub not_empty : All IsNotEmpty entries
+  pub within : (reserved ≡ 0) ⊎ (length entries ≤ reserved)
 
 -- the calls of a history
 abbrev pub calls_of : List AnsweredCall → List Call

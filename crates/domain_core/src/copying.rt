@@ -67,6 +67,7 @@ impl Journal {
     pub fn copy_since(&self, mark: Mark, room: &mut Vec<Entry>) -> Mark
         ensures copies { Copies self.now.entries mark result room.old.items room.new.items }
         ensures all { length self.now.entries + vec_len room.old ≤ mark.entries + vec_capacity room.old → events_from result self.now.entries ≡ [] }
+        ensures rest { vec_len room.new < vec_capacity room.new → events_from result self.now.entries ≡ [] }
         ensures past { length self.now.entries ≤ mark.entries → (result ≡ mark) × (room.new.items ≡ room.old.items) }
         ensures capacity { vec_capacity room.new ≡ vec_capacity room.old }
     {

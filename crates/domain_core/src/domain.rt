@@ -15,7 +15,7 @@ ghost use Rattle.domain_core.specs.declared.event.Reply.TheVariants.{Look};
 ghost use Rattle.domain_core.specs.Machine.{is_recorded};
 ghost use Rattle.domain_core.specs.MachineValue.{machine_of};
 ghost use Rattle.domain_core.specs.PrivateFarm.{is_there, opening};
-ghost use Rattle.domain_core.specs.Journal.{expanded};
+ghost use Rattle.domain_core.specs.Journal.{expanded, IsKeptWithin};
 ghost use Rattle.domain_core.specs.Domain.{state_of, IsMeant, IsCalled, IsOutOfRoom, IsPastLimit, Fits, IsQuiet};
 ghost use Rattle.domain_core.specs.PortStates.{IsPortState};
 ghost use Rattle.domain_core.specs.Ticket.{IsCurrent, Commits, fresh_ticket};
@@ -71,7 +71,7 @@ impl<O: Outputs + Drop> Drop for Domain<O> {
 impl<O: Outputs> Model for Domain<O> {
     ghost use Rattle.std.specs.Prelude.{◌≡◌, length};
     ghost use Rattle.domain_core.specs.Domain.{DomainValue, domain_of, IsMeant};
-    ghost use Rattle.domain_core.specs.Journal.{expanded};
+    ghost use Rattle.domain_core.specs.Journal.{expanded, IsKeptWithin};
 
     ghost Value = { DomainValue };
 
@@ -111,25 +111,28 @@ impl<O: Outputs + Drop> Domain<O> {
         self.machine.part()
     }
 
-    /// A domain is its journal. Its words are a row of its ports, which are as many as the part's count, and it has as
-    /// many nodes as the part.
+    /// A domain is its journal, of which no entry is empty, and which has no more than memory is reserved for, if it is. Its words
+    /// are a row of its ports, which are as many as the part's count, and it has as many nodes as the part.
     ///
     /// The call does nothing: its contract is the law.
     pub fn meant_law(&self)
         ensures journal { IsMeant self.now }
+        ensures kept { IsKeptWithin self.now.journal self.now.reserved }
         ensures row { IsRow (row_of self.now.machine.switch) }
         ensures count { length self.now.machine.switch.ports ≡ self.now.machine.part.count }
         ensures nodes { length self.now.machine.devices.nodes ≡ length self.now.machine.part.nodes }
     {
         // A machine has the ports and nodes of its part.
         self.machine.of_part_law();
+        // A journal has no empty entry, and none past those that are reserved.
+        self.journal.kept_law();
     }
 
     /// Answers an event as a farm does that holds the domain alone.
     ///
     /// `NoSuch` where there is no such user, host, node or port, or the host isn't the user's; else
-    /// `JournalFull` where the recorded events number the limit; else `NoMemory` where no memory is
-    /// reserved for one more entry of the journal and the system has none. After a refusal nothing has changed.
+    /// `JournalFull` where the recorded events number the limit; else `NoMemory` where the journal has as many entries as memory
+    /// is reserved for, or none is reserved and the system has none. After a refusal nothing has changed.
     // Six clauses: what is answered, when memory is wanted, and what stays. Each kind of event has a copy of the code, in
     // which its tests are known.
     pub fn apply(&mut self, _alloc: Global, by: By, event: Event) -> Result<Reply, Refusal>
@@ -298,10 +301,10 @@ impl<O: Outputs + Drop> Domain<O> {
             && self.machine.is_at(plan.ports(number))
     }
 
-    /// Reserves memory for `entries` entries of the journal in all, whether they are looks or not. The memory isn't
-    /// touched before it is needed.
+    /// Reserves memory for `entries` entries of the journal in all, whether they are looks or not. There may be no more then,
+    /// but for 0 as many as the system has memory for. The memory isn't touched before it is needed.
     ///
-    /// `NoMemory` if the system doesn't give that much. Nothing has changed then.
+    /// `NoMemory` if the system doesn't give that much, or the journal has more entries already. Nothing has changed then.
     pub fn reserve(&mut self, _alloc: Global, entries: usize) -> Result<(), NoMemory>
         ensures ok { OnOk result (self.new ≡ record self.old { reserved = entries }) }
         ensures err { OnErr result (self.new ≡ self.old) }
@@ -423,8 +426,8 @@ impl<O: Outputs + Drop> Domain<O> {
     /// Steps, for which the farm asked. The ticket is spent in each case.
     ///
     /// `Stale` where the home node isn't the start or isn't there; else `JournalFull` where the
-    /// recorded events and the ticket's Steps pass the limit; else `NoMemory` where no memory is reserved for
-    /// one more entry of the journal and the system has none. In each of these nothing has changed.
+    /// recorded events and the ticket's Steps pass the limit; else `NoMemory` where the journal has as many entries as
+    /// memory is reserved for, or none is reserved and the system has none. In each of these nothing has changed.
     // Seven clauses: when each outcome comes, and what changes then.
     pub fn commit(&mut self, alloc: Global, mut ticket: Ticket) -> Result<Committed, Refusal>
         ensures stale { (result ≡ Ok Stale) ↔ ¬ IsCurrent self.old ticket }

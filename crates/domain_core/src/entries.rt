@@ -1,11 +1,11 @@
 //! The entries of a journal as they are kept: 24 bytes each, and apart from them what looks saw.
-ghost use Rattle.std.specs.Prelude.{◌≡◌, ◌<◌, ◌≤◌, ◌+◌, ◌^◌, ◌++◌, ◌∷◌, [], ℕ, IsTrue, IfOk, OnOk, OnErr, MatchResult, length, slice_get, is_ok, if◌then◌else◌};
+ghost use Rattle.std.specs.Prelude.{◌≡◌, ◌<◌, ◌≤◌, ◌+◌, ◌*◌, ◌-◌, ◌^◌, min, ◌++◌, ◌∷◌, [], ℕ, IsTrue, ◌↔◌, IfOk, OnOk, OnErr, MatchResult, length, slice_get, is_ok, if◌then◌else◌};
 ghost use Rattle.std.specs.List.{All};
 ghost use Rattle.domain_core.specs.declared.entries.SmallEntry.TheVariants.{Run};
 ghost use Rattle.domain_core.specs.declared.event.Reply.TheVariants.{Look};
 ghost use Rattle.domain_core.specs.declared.journal.Entry.TheVariants.{One as SpecOne, Run as SpecRun};
 ghost use Rattle.domain_core.specs.Entries.{reply_of, entry_of, HasRoomToShow, journal_of};
-ghost use Rattle.domain_core.specs.Journal.{expanded, steps};
+ghost use Rattle.domain_core.specs.Journal.{expanded, steps, IsNotEmpty, IsKeptWithin};
 ghost use Rattle.domain_core.specs.Ticket.{steps_told};
 ghost use Rattle.t414_step.specs.declared.stepping.Stepped.TheVariants.{Ran};
 
@@ -158,11 +158,11 @@ impl Drop for Entries {
 impl Model for Entries {
     ghost use Rattle.std.specs.Prelude.{◌-◌, map, vec_len, vec_capacity};
     ghost use Rattle.std.specs.List.{All};
-    ghost use Rattle.domain_core.specs.Entries.{EntriesValue, entry_of, IsStored, AreReserved};
+    ghost use Rattle.domain_core.specs.Entries.{EntriesValue, entry_of, entries_left, IsStored, AreReserved};
 
     ghost Value = { EntriesValue };
 
-    ghost view = { λ e. record { entries = map (entry_of e.seen.items) e.small.items; room = vec_capacity e.small - vec_len e.small; look_room = vec_capacity e.seen - vec_len e.seen; reserved = e.reserved } };
+    ghost view = { λ e. record { entries = map (entry_of e.seen.items) e.small.items; room = entries_left e.reserved (vec_len e.small) (vec_capacity e.small); look_room = vec_capacity e.seen - vec_len e.seen; reserved = e.reserved } };
 
     ghost invariant = { λ e. All (IsStored e.seen.items) e.small.items
         × AreReserved e.reserved (vec_len e.small) (vec_len e.seen) (vec_capacity e.small) (vec_capacity e.seen) };
@@ -197,19 +197,34 @@ impl Entries {
     }
 
     /// How many bytes the entries take, with a place in the list of its user for each command.
-    pub(crate) fn bytes(&self) -> u64 {
+    pub(crate) fn bytes(&self) -> u64
+        ensures least { min (24 * length self.now.entries) (2 ^ 64 - 1) ≤ result }
+    {
         let entries = (self.small.len() as u64).saturating_mul(ENTRY_BYTES);
         let looks = (self.seen.len() as u64).saturating_mul(LOOK_BYTES);
         let lists = (self.commands as u64).saturating_mul(TOLD_BYTES);
         entries.saturating_add(looks).saturating_add(lists)
     }
 
-    /// Reserves memory for `count` entries in all, whether they are looks or not.
+    /// No entry is empty, and there are no more than are reserved, if any are.
+    ///
+    /// The call does nothing: its contract is the law.
+    pub(crate) fn kept_law(&self)
+        ensures { IsKeptWithin self.now.entries self.now.reserved }
+    {
+        let _ = &self.small;
+    }
+
+    /// Reserves memory for `count` entries in all, whether they are looks or not. If there are more already, and `count` isn't
+    /// 0, it isn't reserved.
     pub(crate) fn reserve_all(&mut self, count: usize) -> Result<(), NoMemory>
         ensures ok { OnOk result (self.new.reserved ≡ count) }
         ensures entries { self.new.entries ≡ self.old.entries }
         ensures err { OnErr result (self.new.reserved ≡ self.old.reserved) }
     {
+        if count > 0 && self.small.len() > count {
+            return Err(NoMemory);
+        }
         self.small
             .reserve_exact(count.saturating_sub(self.small.len()))?;
         self.seen
@@ -255,28 +270,44 @@ impl Entries {
         Some(entry)
     }
 
-    /// Reserves memory for one more entry that is no look.
+    // Whether one entry more would be past those that are reserved.
+    #[inline(always)]
+    fn is_past_reserved(&self) -> bool
+        ensures { IsTrue result ↔ ((0 < self.now.reserved) × (self.now.reserved ≤ length self.now.entries)) }
+    {
+        self.reserved > 0 && self.small.len() >= self.reserved
+    }
+
+    /// Reserves memory for one more entry that is no look. If memory is reserved for a number of entries, there may be no more.
+    #[tactic(auto, using(crate::proofs::Reserved::has_left))]
     pub(crate) fn reserve(&mut self) -> Result<(), NoMemory>
         ensures room { IfOk result (λ _. 0 < self.new.room) }
         ensures memory { OnErr result (self.old.reserved ≤ length self.old.entries) }
         ensures unchanged { journal_of self.new ≡ journal_of self.old }
     {
+        if self.is_past_reserved() {
+            return Err(NoMemory);
+        }
         self.small.reserve(1)
     }
 
     /// Reserves memory for one more look.
+    #[tactic(auto, using(crate::proofs::Reserved::has_left))]
     pub(crate) fn reserve_look(&mut self) -> Result<(), NoMemory>
         ensures room { IfOk result (λ _. 0 < self.new.room) }
         ensures look_room { IfOk result (λ _. 0 < self.new.look_room) }
         ensures memory { OnErr result (self.old.reserved ≤ length self.old.entries) }
         ensures unchanged { journal_of self.new ≡ journal_of self.old }
     {
+        if self.is_past_reserved() {
+            return Err(NoMemory);
+        }
         self.seen.reserve(1)?;
         self.small.reserve(1)
     }
 
     // Appends a look, if there is room.
-    #[tactic(auto, using(crate::proofs::Kept::look_pushed))]
+    #[tactic(auto, using(crate::proofs::Kept::look_pushed, crate::proofs::Reserved::has_place, crate::proofs::Reserved::within_more))]
     fn push_look(&mut self, by: By, event: Event, seen: Seen)
         requires room { 0 < self.old.room }
         requires look_room { 0 < self.old.look_room }
@@ -292,6 +323,7 @@ impl Entries {
 
     // Appends one event with a small reply, if there is room.
     #[inline(always)]
+    #[tactic(auto, using(crate::proofs::Reserved::has_place, crate::proofs::Reserved::within_more))]
     fn push_small(&mut self, by: By, event: Event, reply: SmallReply)
         requires { 0 < self.old.room }
         ensures entries { self.new.entries ≡ self.old.entries ++ SpecOne by event (reply_of reply) ∷ [] }
@@ -315,10 +347,12 @@ impl Entries {
         }
     }
 
-    // Appends a run, if there is room.
+    // Appends a run of some Steps, if there is room.
     #[inline(never)]
+    #[tactic(auto, using(crate::proofs::Reserved::has_place, crate::proofs::Reserved::within_more))]
     fn push_run(&mut self, by: By, node: u8, count: u64, last: Stepped)
-        requires { 0 < self.old.room }
+        requires room { 0 < self.old.room }
+        requires some { 0 < count }
         ensures entries { self.new.entries ≡ self.old.entries ++ SpecRun by node count last ∷ [] }
         ensures reserved { self.new.reserved ≡ self.old.reserved }
     {
@@ -330,14 +364,14 @@ impl Entries {
         });
     }
 
-    /// Appends an entry. After `NoMemory` they are what they were.
+    /// Appends an entry that isn't empty. After `NoMemory` they are what they were.
     pub(crate) fn push(&mut self, entry: Entry) -> Result<(), NoMemory>
+        requires { IsNotEmpty entry }
         ensures entries { self.new.entries ≡ (if is_ok result then self.old.entries ++ entry ∷ [] else self.old.entries) }
         ensures memory { OnErr result (self.old.reserved ≤ length self.old.entries) }
         ensures reserved { self.new.reserved ≡ self.old.reserved }
     {
-        self.seen.reserve(1)?;
-        self.small.reserve(1)?;
+        self.reserve_look()?;
         match entry {
             Entry::One { by, event, reply } => self.push_one(by, event, reply),
             Entry::Run {

@@ -1,5 +1,6 @@
 //! What a domain answered, in order.
-ghost use Rattle.std.specs.Prelude.{◌≡◌, ◌≤◌, ◌++◌, ◌∷◌, [], ◌↔◌, IsTrue, OnOk, OnErr, length, slice_get, is_ok, if◌then◌else◌};
+ghost use Rattle.std.specs.Prelude.{◌≡◌, ◌≤◌, ◌*◌, ◌-◌, ◌^◌, min, ◌++◌, ◌∷◌, [], ◌↔◌, IsTrue, OnOk, OnErr, length, slice_get, is_ok, if◌then◌else◌};
+ghost use Rattle.domain_core.specs.Journal.{IsNotEmpty, IsKeptWithin};
 
 use crate::NoMemory;
 use crate::entries::Entries;
@@ -34,7 +35,7 @@ pub enum Entry {
 }
 
 /// What a domain answered, in order: a list of entries. Each takes 24 bytes, and a look 28 more. Memory may be reserved for a
-/// number of entries: as long as there are fewer, one more takes no memory from the system.
+/// number of entries: then there are never more, and one more takes no memory from the system.
 pub struct Journal {
     pub(crate) entries: Entries,
 }
@@ -93,8 +94,10 @@ impl Journal {
         self.entries.looks()
     }
 
-    /// How many bytes the entries take, with a place in the list of its user for each command.
-    pub fn bytes(&self) -> u64 {
+    /// How many bytes the entries take, with a place in the list of its user for each command: 24 of each entry at the least.
+    pub fn bytes(&self) -> u64
+        ensures least { min (24 * length self.now.entries) (2 ^ 64 - 1) ≤ result }
+    {
         self.entries.bytes()
     }
 
@@ -105,7 +108,17 @@ impl Journal {
         self.entries.reserved_entries()
     }
 
-    /// Reserves memory for `count` entries in all. After `NoMemory` as much is reserved as before.
+    /// No entry is empty, and there are no more than memory is reserved for, if it is reserved for any.
+    ///
+    /// The call does nothing: its contract is the law.
+    pub fn kept_law(&self)
+        ensures { IsKeptWithin self.now.entries self.now.reserved }
+    {
+        self.entries.kept_law();
+    }
+
+    /// Reserves memory for `count` entries in all, and for 0 lets there be as many as the system has memory for. `NoMemory`
+    /// too if there are more than `count` already. Then as much is reserved as before.
     pub fn reserve(&mut self, count: usize) -> Result<(), NoMemory>
         ensures ok { OnOk result (self.new.reserved ≡ count) }
         ensures entries { self.new.entries ≡ self.old.entries }
@@ -114,8 +127,10 @@ impl Journal {
         self.entries.reserve_all(count)
     }
 
-    /// Appends an entry. `NoMemory` only if no memory is reserved for one more; then the journal is what it was.
+    /// Appends an entry that isn't empty. `NoMemory` only if no memory is reserved for one more; then the journal is what it
+    /// was.
     pub fn push(&mut self, entry: Entry) -> Result<(), NoMemory>
+        requires { IsNotEmpty entry }
         ensures entries { self.new.entries ≡ (if is_ok result then self.old.entries ++ entry ∷ [] else self.old.entries) }
         ensures memory { OnErr result (self.old.reserved ≤ length self.old.entries) }
         ensures reserved { self.new.reserved ≡ self.old.reserved }

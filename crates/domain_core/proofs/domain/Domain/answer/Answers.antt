@@ -1,4 +1,4 @@
-use Rattle.std.proofs.Common.{◌≡◌, ◌≢◌, ◌+◌, ◌≤◌, ap, sym, ◌∙◌, subst, List, [], ◌∷◌, ◌++◌, length, Ok, Err, true}
+use Rattle.std.proofs.Common.{◌≡◌, ◌≢◌, ◌+◌, ap, sym, ◌∙◌, subst, [], ◌∷◌, ◌++◌, length, Ok, Err, true}
 use Rattle.std.proofs.lemmas.List.{length-append}
 use Rattle.plan_rules.specs.Part.{PartData}
 use Rattle.domain_core.specs.declared.event.Event.{Event}
@@ -6,8 +6,7 @@ use Rattle.domain_core.specs.declared.event.Event.TheVariants.{Look}
 use Rattle.domain_core.specs.declared.event.Refusal.TheVariants.{NoSuch, JournalFull, NoMemory}
 use Rattle.domain_core.specs.declared.event.Reply.{Reply}
 use Rattle.domain_core.specs.declared.event.Reply.TheVariants as reply
-use Rattle.domain_core.specs.declared.journal.Entry.{Entry}
-use Rattle.domain_core.specs.Domain.{DomainValue, domain_of, IsMeant, IsCalled, IsOutOfRoom}
+use Rattle.domain_core.specs.Domain.{DomainValue, domain_of, IsMeant, IsCalled}
 use Rattle.domain_core.specs.Entries.{reply_of, journal_of}
 use Rattle.domain_core.specs.Journal.{AnsweredCall, JournalValue, expanded}
 use Rattle.domain_core.specs.PrivateFarm.{Call, is_there}

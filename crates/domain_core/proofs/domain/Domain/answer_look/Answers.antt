@@ -1,10 +1,9 @@
-use Rattle.std.proofs.Common.{refl, subst, ◌≡◌, ◌≢◌, ap, sym, ◌∙◌, List, length, ◌++◌, ◌∷◌, [], ◌+◌, Ok, Err, true}
+use Rattle.std.proofs.Common.{refl, subst, ◌≡◌, ◌≢◌, ap, sym, ◌∙◌, length, ◌++◌, ◌∷◌, [], ◌+◌, Ok, Err, true}
 use Rattle.std.proofs.lemmas.List.{length-append}
 use Rattle.domain_core.specs.declared.event.Event.TheVariants.{Look}
 use Rattle.domain_core.specs.declared.event.Refusal.TheVariants.{NoMemory}
 use Rattle.domain_core.specs.declared.event.Reply.{Reply}
 use Rattle.domain_core.specs.declared.event.Reply.TheVariants as reply
-use Rattle.domain_core.specs.declared.journal.Entry.{Entry}
 use Rattle.domain_core.specs.Domain.{DomainValue, domain_of, IsMeant, IsCalled}
 use Rattle.domain_core.specs.Entries.{journal_of}
 use Rattle.domain_core.specs.Journal.{AnsweredCall, JournalValue, expanded}

@@ -11,7 +11,6 @@ use Rattle.domain_core.specs.declared.domain.Committed.{Committed}
 use Rattle.domain_core.specs.declared.domain.Committed.TheVariants.{Done, Stale}
 use Rattle.domain_core.specs.declared.event.Refusal.{Refusal}
 use Rattle.domain_core.specs.declared.event.Refusal.TheVariants.{JournalFull, NoMemory}
-use Rattle.domain_core.specs.declared.journal.Entry.{Entry}
 use Rattle.domain_core.specs.Domain.{DomainValue, domain_of, IsMeant, IsPastLimit}
 use Rattle.domain_core.specs.Entries.{journal_of}
 use Rattle.domain_core.specs.Journal.{JournalValue, expanded}

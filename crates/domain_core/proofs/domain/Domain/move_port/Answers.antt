@@ -1,4 +1,4 @@
-use Rattle.std.proofs.Common.{subst, refl, Ok, ◌<◌, ◌≡◌, ◌≢◌, ap, sym, ◌∙◌, length, ◌++◌, ◌∷◌, [], ◌+◌, List, true}
+use Rattle.std.proofs.Common.{subst, refl, Ok, ◌<◌, ◌≡◌, ◌≢◌, ap, sym, ◌∙◌, length, ◌++◌, ◌∷◌, [], ◌+◌, true}
 use Rattle.std.proofs.lemmas.Bool.{false≢true}
 use Rattle.std.proofs.lemmas.List.{length-append}
 use Rattle.std.specs.List.{AllZip}
@@ -9,7 +9,6 @@ use Rattle.domain_core.specs.declared.event.Event.TheVariants.{Move}
 use Rattle.domain_core.specs.declared.event.Moved.{Moved}
 use Rattle.domain_core.specs.declared.event.Reply.{Reply}
 use Rattle.domain_core.specs.declared.event.Reply.TheVariants as reply_of
-use Rattle.domain_core.specs.declared.journal.Entry.{Entry}
 use Rattle.domain_core.specs.Devices.{DeviceStates}
 use Rattle.domain_core.specs.Domain.{DomainValue, domain_of, IsMeant, IsCalled}
 use Rattle.domain_core.specs.Entries.{journal_of}

@@ -47,3 +47,9 @@ returns-clause-all c = λ few.
     c.loop-index.invariant.next
     ∙ none_behind c.loop-index.index c.loop-index.events c.args.self.now.entries
     (let e = c.len-index-end.ensures in let t = c.loop-index-test.false in omega arith)
+
+pub returns-clause-rest : goal.returns-clause-rest
+returns-clause-rest c = λ place.
+    c.loop-index.invariant.next
+    ∙ none_behind c.loop-index.index c.loop-index.events c.args.self.now.entries
+    (let e = c.len-index-end.ensures in let t = c.loop-index-test.false in omega arith)
