@@ -55,7 +55,8 @@ long_read (Some text) (Some rest) read most is none many =
     ap (take_through 10) is ∙ take_through-append 10 read rest none in
     let front : take (most + 1) (read ++ take_through 10 rest) ≡ read =
     ap (λ n. take n (read ++ take_through 10 rest)) (sym many)
-    ∙ take-append-le (length read) read (take_through 10 rest) (le_refl _) ∙ take_all (length read) read (le_refl _) in (
+    ∙ take-append-le (length read) read (take_through 10 rest) (le_refl _)
+    ∙ take_all (length read) read (le_refl _) in (
       sym (ap (take (most + 1)) line ∙ front),
       omega (arith, many, ap length line, length-append read (take_through 10 rest)),
     )

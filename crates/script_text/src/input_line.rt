@@ -40,6 +40,7 @@ fn taken_of(shown: &[u8], most: usize) -> usize
 
 // Appends what the reader has at hand of a line, at most `most` bytes. The answer is whether the line ended by that, with its
 // line feed or with the input.
+// Eight clauses: what is appended, and what that and the answer say of the line and of the reader.
 fn take_some<R: BufRead>(input: &mut R, most: usize, bytes: &mut Vec<u8>) -> io::Result<bool>
     requires { 0 < most }
     ensures appends { StartsWith bytes.new.items bytes.old.items }
@@ -70,6 +71,7 @@ fn take_some<R: BufRead>(input: &mut R, most: usize, bytes: &mut Vec<u8>) -> io:
 
 // Reads the next line into an empty list, or of one of more than `most + 1` bytes that many. The answer is whether the line ended
 // by that, with its line feed or with the input.
+// Seven clauses: what is read, and what that and the answer say of the line and of the reader.
 fn read_beginning<R: BufRead>(input: &mut R, most: u32, bytes: &mut Vec<u8>) -> io::Result<bool>
     requires { bytes.old.items ≡ [] }
     ensures most { length bytes.new.items ≤ most + 1 }
@@ -93,8 +95,7 @@ fn read_beginning<R: BufRead>(input: &mut R, most: u32, bytes: &mut Vec<u8>) -> 
 }
 
 /// Reads the next line. With its line feed it has at most `most` bytes, or it is too long. What follows the last line feed is a
-/// line too, if it isn't empty. After an Ok the reader stands behind the line, also if that was too long or there was no memory for
-/// it.
+/// line too, if it isn't empty. After an Ok the line is read to its end, also if it was too long or there was no memory for it.
 pub fn next_line<R: BufRead>(alloc: Global, input: &mut R, most: u32) -> io::Result<InputLine>
     ensures line { IfOk result (λ line. IfSome (R.remaining input.old) (λ text. IsNextLine text most line)) }
     ensures rest { OnOk result (DropsThrough (R.remaining input.old) (R.remaining input.new) 10) }
