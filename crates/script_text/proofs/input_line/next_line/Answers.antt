@@ -1,20 +1,22 @@
-use Rattle.script_text.proofs.InputLemmas.{whole_read, long_read, end_read, begun_read}
+use Rattle.std.proofs.Common.{rules}
+use Rattle.script_text.proofs.InputLemmas.{end_read, long_read, rest_passed}
 use Rattle.script_text.proofs.input_line.next_line.Goals as goal
 
-pub returns-in-Err : goal.returns-in-Err
-returns-in-Err g c = begun_read _ _ _ c.new-bytes.ensures.items c.read_beginning.ensures.begun
+pub returns-in-Ok-true-clause-line : goal.returns-in-Ok-true-clause-line
+returns-in-Ok-true-clause-line g c =
+    end_read _ _ (c.read_beginning.ensures.line (search rules)) (search rules)
 
-pub returns-then-count-eq0 : goal.returns-then-count-eq0
-returns-then-count-eq0 g c =
-    end_read _ c.args.most _ _ _ c.new-bytes.ensures.items c.in-Ok.ensures.line c.in-Ok.ensures.count
-    c.if-count-eq0.true
+pub returns-in_ok-skip_until-in-Ok-false-clause-line : goal.returns-in_ok-skip_until-in-Ok-false-clause-line
+returns-in_ok-skip_until-in-Ok-false-clause-line g c =
+    long_read _ _ _ c.args.most c.read_beginning.ensures.bytes (c.read_beginning.ensures.goes_on (search rules))
+    (c.read_beginning.ensures.cut (search rules))
 
-pub returns-then-count-most : goal.returns-then-count-most
-returns-then-count-most g c =
-    whole_read _ c.args.most _ _ _ c.new-bytes.ensures.items c.in-Ok.ensures.line c.in-Ok.ensures.count
-    c.if-count-eq0.false c.if-count-most.true
+pub returns-in_ok-skip_until-in-Ok-false-clause-rest : goal.returns-in_ok-skip_until-in-Ok-false-clause-rest
+returns-in_ok-skip_until-in-Ok-false-clause-rest g c =
+    rest_passed _ _ _ _ c.read_beginning.ensures.bytes (c.read_beginning.ensures.goes_on (search rules))
+    c.in_ok-skip_until-in-Ok-false.ensures.rest
 
-pub returns : goal.returns
-returns g c =
-    long_read _ c.args.most _ _ _ c.new-bytes.ensures.items c.in-Ok.ensures.line c.in-Ok.ensures.count
-    c.if-count-most.false
+pub returns-in_ok-skip_until-in-Err-clause-rest : goal.returns-in_ok-skip_until-in-Err-clause-rest
+returns-in_ok-skip_until-in-Err-clause-rest g c =
+    rest_passed _ _ _ _ c.read_beginning.ensures.bytes (c.read_beginning.ensures.goes_on (search rules))
+    c.in_ok-skip_until-in-Err.ensures.rest
