@@ -410,10 +410,11 @@ def test_wrong_changes_change_nothing() -> None:
         )
         if os.getuid() == 0:
             os.chown(f"{it.folder}/class.json", 65534, -1)
-            assert (
-                it.refused("remove", "student-1").split(",")[0]
-                == "class: course/class.json belongs to the account nobody"
-            )
+            before = it.files()
+            for order in (("remove", it.folder, "student-1"), ("status", it.folder), ("check", it.folder, "x", "y")):
+                done = it.call(*order)
+                said = f"class: {it.folder}/class.json belongs to the account nobody"
+                assert (done.returncode, done.stderr.split(",")[0], it.files() == before) == (1, said, True)
         assert it.lock(1) == serving
 
 

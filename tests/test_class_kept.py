@@ -157,6 +157,17 @@ def test_what_others_may_write_is_refused() -> None:
         assert (text_of(victim), os.path.getsize(f"{it.room.name}/page") > 0) == ("mine", True)
 
 
+def test_a_class_of_a_wide_mask_is_told_what_to_do() -> None:
+    """Of a class whose files a group may write, as an earlier version made it, one command is said that mends all."""
+    with Course(17) as it:
+        run(["chmod", "-R", "g+w", it.folder])
+        done = it.call("status", it.folder)
+        told = done.stderr.partition("and then ")[2].removesuffix(" forbids it\n")
+        assert (done.returncode, told[:5]) == (1, "find ")
+        assert run(["sh", "-c", told]).status == 0
+        assert it.must("start") == "farm-1: up, 16 users\nfarm-2: up, 1 user\n"
+
+
 def test_a_folder_with_links_is_refused() -> None:
     """A class is made in no folder that leads elsewhere."""
     with Course(1) as it:

@@ -17,7 +17,7 @@ from .coming import person_of
 from .escapes import escaped
 from .exercises import LANGUAGES, MOST_STEPS, OWN_FOLDER, exercise_in, is_own
 from .folder import Refused, build, program, put_whole
-from .kept import class_in
+from .kept import own_class
 from .marks import as_csv, as_page, as_table
 from .plans import VERSION, user_name
 
@@ -266,7 +266,7 @@ def check(words: list[str]) -> int:
         "PROGRAMS", help="the folder of the programs: NAME.occ or NAME.s for each student, or a folder NAME"
     )
     it = parser.parse_args(words)
-    kept, exercise = class_in(it.DIR), exercise_in(it.EXERCISE)
+    kept, exercise = own_class(it.DIR), exercise_in(it.EXERCISE)
     users = [name for names in kept.farms.values() for name in names]
     found, others = programs_in(it.PROGRAMS, users)
     build("class", "lab")

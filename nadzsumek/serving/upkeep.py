@@ -7,6 +7,7 @@ import re
 import shlex
 import socket
 import subprocess
+import sys
 import threading
 import time
 from collections.abc import Sequence
@@ -41,7 +42,11 @@ INTERRUPTED = 130
 
 
 def say(text: str) -> None:
-    print(escaped(text), flush=True)
+    """Says how it goes on. That nobody reads it any more, as when a terminal is closed, hinders nothing."""
+    try:
+        print(escaped(text), flush=True)
+    except OSError:
+        os.dup2(os.open(os.devnull, os.O_WRONLY), sys.stdout.fileno())
 
 
 def is_up(farm: str) -> bool:
@@ -69,9 +74,10 @@ class Work(threading.Thread):
             self.outcome = False, f"{error}"
 
     def begin(self) -> None:
-        """Begins it, unless the system has no thread for it."""
+        """Begins it unless it has begun, or the system has no thread for it."""
         try:
-            self.start()
+            if self.ident is None:
+                self.start()
         except RuntimeError as error:
             self.outcome = False, f"nothing is done with it: {error}. See ulimit -u, and give the order again"
 
@@ -272,10 +278,14 @@ class Stop(Work):
         return f"not off yet, but asked to stop: {self.whose()} goes on with that"
 
 
-def all_done(works: Sequence[Work]) -> list[Work]:
-    """Does works side by side, and says each few seconds what is waited for; those that failed."""
+def begin_all(works: Sequence[Work]) -> None:
     for work in works:
         work.begin()
+
+
+def all_done(works: Sequence[Work]) -> list[Work]:
+    """Does works side by side, and says each few seconds what is waited for; those that failed."""
+    begin_all(works)
     while waiting := [it for it in works if it.is_alive()]:
         waiting[0].join(SAY_SECONDS)
         if waiting[0].is_alive():
@@ -286,8 +296,7 @@ def all_done(works: Sequence[Work]) -> list[Work]:
 def do_all(works: Sequence[Work]) -> int:
     """Does works side by side, and says what became of each, in their order, and each few seconds what is waited for; the
     status."""
-    for work in works:
-        work.begin()
+    begin_all(works)
     failed = at = 0
     try:
         while at < len(works):
