@@ -48,7 +48,7 @@ sys.exit(classes.main(sys.argv[1:]))
 # What is said while it is waited, which a busy machine makes longer.
 WAITING = re.compile("no answer yet after|not off yet")
 # What a farm itself writes as long as it is up.
-OWN = re.compile(r"\.sock$|/(class\.)?lock$|/serve\.log$")
+OWN = re.compile(r"\.sock$|/(class\.)?lock$|/serve\.log$|/pace$")
 
 
 class Changing(Course):

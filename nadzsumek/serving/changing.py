@@ -19,7 +19,7 @@ from .places import parts_of, text_of
 from .records import PIECE, records_of
 from .replacement import Replacement, discard, go_back, is_left, mend
 from .sheets import count
-from .status import ask_operator
+from .status import AGAIN, ask_operator
 from .supervising import Awaited, AwaitedChange, supervisor_of
 from .upkeep import INTERRUPTED, Start, Stop, all_done, say
 
@@ -122,7 +122,7 @@ def number_of(path: str, name: str) -> int:
 
 
 def outs(farm: str) -> set[str]:
-    """The users whose records couldn't be taken."""
+    """The users whose records couldn't be taken. A farm that does its records again is refused: it would begin with that anew."""
     try:
         answers = ask_operator(farm, "!users", ANSWER_SECONDS)
     except OSError as error:
@@ -130,6 +130,10 @@ def outs(farm: str) -> set[str]:
             f"{os.path.basename(farm)} is up, but its operator isn't answered ({error.strerror or error}): try again "
             "when class status shows it"
         ) from None
+    if any(it.split(" ")[2:3] == [AGAIN] for it in answers):
+        raise Refused(
+            f"{os.path.basename(farm)} does its records again: try again when class status shows that it is up"
+        )
     return {words[1] for it in answers if "out" in (words := it.split(" "))[5:]}
 
 

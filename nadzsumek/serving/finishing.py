@@ -17,7 +17,7 @@ from collections.abc import Iterator
 from concurrent.futures import Future, ThreadPoolExecutor
 from typing import IO, TYPE_CHECKING, NamedTuple, cast
 
-from .changing import changing, undisturbed
+from .changing import changing, outs, undisturbed
 from .coming import REMOVED
 from .escapes import escaped
 from .folder import CLASS, LOG, OWN_FILE, PLAN, Refused, build, new_file, sync
@@ -33,7 +33,7 @@ if TYPE_CHECKING:
 
 ENDING = ".tar.xz"
 # What `class`, `serve` and `live` make for themselves, and that is nobody's work.
-OWN = re.compile(r"^(class\.)?lock$|\.sock$")
+OWN = re.compile(r"^((class\.)?lock|pace)$|\.sock$")
 # How much an archive is squeezed, in pieces of so many bytes, of which so many are on their way. Records of thirty students are
 # squeezed in minutes.
 PRESET, SQUEEZED, MOST_PIECES = 1, 1 << 22, min(os.cpu_count() or 1, 8)
@@ -211,6 +211,8 @@ def stopped(change: Change, is_last: bool) -> Iterator[tuple[list[Item], list[St
     up = change.up()
     if up:
         build("class", "live")
+    for farm in up:
+        outs(farm)
     ended = [Stop(farm, change.course) for farm in up]
     starts = [change.start_of(farm, change.kept.farms[farm], Awaited) for farm in up]
     try:

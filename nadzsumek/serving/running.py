@@ -34,7 +34,7 @@ KEPT, MOST_TOLD = 20, 4096
 # program itself is there again.
 PAUSES = (1, 2, 4, 8, 16)
 # What `live` says of a record that it does again: whose record it is, and how far it is.
-DONE_AGAIN = re.compile(r"(?:.*/)?([^/]+)\.replay: (\d+ of \d+ MiB) are done again")
+DONE_AGAIN = re.compile(r"(?:.*/)?([^/]+)\.replay: (\d+ of \d+ (?:MiB|Steps)) are done again")
 # What it says of a line whose user it doesn't know, since it had no memory to read the name.
 NOBODYS = re.compile(r"error (\d+) user")
 

@@ -33,6 +33,7 @@ from .folder import (
     program,
     socket_path,
 )
+from .replays import SAY_SECONDS, Replay
 from .ports import Wiring, found_in, ports_told, users_in, wiring_in
 from .reports import Reports, open_streams
 from .rooms import RECORD_ROOM, ROOM, Needed, add_rooms
@@ -73,7 +74,7 @@ class Server:
         self.is_up, self.is_stopping, self.is_proved = False, False, True
         # set while lines are handed on, or refused since the farm is stopped
         self.goes = asyncio.Event()
-        self.starts = running.Starts()
+        self.starts, self.replay = running.Starts(), Replay(self.folder.path)
         self.speakers: dict[str, Speaker] = {}
         self.operator: Operator
         self.accepting: list[asyncio.Task[None]] = []
@@ -174,6 +175,9 @@ class Server:
         if (news := speaker.news(text)) is not None:
             self.tell_all(f"the operator says: {escaped(news.decode(errors='surrogateescape'))}")
             return
+        if speaker.name == OPERATOR and not self.goes.is_set() and (answers := self.answers_of_replay(text)):
+            client.tell(b"".join(tag + it for it in answers))
+            return
         asked = await speaker.enter(text, client, tag)
         await self.goes.wait()
         if client.is_gone() or self.is_stopping:
@@ -184,6 +188,27 @@ class Server:
             self.say_ports(speaker, asked)
             return
         speaker.sent(self.current_live().say(speaker.line(text)), asked)
+
+    def answers_of_replay(self, text: bytes) -> list[bytes]:
+        """What the operator is answered while records are done again: who waits for how long. Other lines wait too."""
+        words = self.operator.words(text)
+        if words == [b"!memory"]:
+            return [b"!memory again\n"]
+        told = f" {self.replay.words()}\n".encode()
+        return (
+            [b"!users " + it.encode() + told for it in self.speakers if it != OPERATOR] if words == [b"!users"] else []
+        )
+
+    async def say_replay(self) -> None:
+        """Says now and then how long records are done again. Users hear nothing of it, for it is of the records of all."""
+        while True:
+            await asyncio.sleep(SAY_SECONDS)
+            self.tell_operator(f"serve: {self.replay.told()}")
+
+    def tell_operator(self, text: str) -> None:
+        self.reports.say(text)
+        if OPERATOR in self.speakers:
+            self.speakers[OPERATOR].tell(f"note: {escaped(text)}\n".encode())
 
     def read_wirings(self, users: list[str]) -> None:
         """Reads in the plan what these users have, unless it is known: it is asked for also when no file can be opened."""
@@ -222,13 +247,11 @@ class Server:
 
     def hear_error(self, text: str) -> None:
         """Hands on a line of the standard error of `live`: to the operator, and to whose domain is done again."""
-        self.reports.say(text)
         if found := running.DONE_AGAIN.fullmatch(text):
             self.tell_progress(*found.groups())
         if found := running.NOBODYS.fullmatch(text):
             self.give_up(int(found[1]))
-        if OPERATOR in self.speakers:
-            self.speakers[OPERATOR].tell(f"note: {escaped(text)}\n".encode())
+        self.tell_operator(text)
 
     def give_up(self, number: int) -> None:
         """Names a line that `live` couldn't read to who sent it."""
@@ -299,7 +322,13 @@ class Server:
 
     async def begin(self) -> None:
         """Starts `live`, opens the sockets if they aren't open yet, and says to whom lines go."""
-        self.live, users = await running.begin(self.call(), self.folder.records, self.begun, self.hear_error)
+        self.replay = Replay(self.folder.path)
+        saying = asyncio.ensure_future(self.say_replay())
+        try:
+            self.live, users = await running.begin(self.call(), self.folder.records, self.begun, self.hear_error)
+        finally:
+            saying.cancel()
+        self.replay.keep()
         if not self.speakers:
             self.open(users)
         elif users != [*self.speakers][:-1]:
