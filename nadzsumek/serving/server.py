@@ -18,6 +18,7 @@ from typing import TYPE_CHECKING
 
 from . import running
 from .accepting import accept
+from .backlogs import MOST_OF_USER
 from .escapes import escaped
 from .folder import (
     NOT_PROVED,
@@ -37,6 +38,7 @@ from .replays import SAY_SECONDS, Replay
 from .ports import Wiring, found_in, ports_told, users_in, wiring_in
 from .reports import Reports, open_streams
 from .rooms import RECORD_ROOM, ROOM, Needed, add_rooms
+from .rooms import shown as shown_size
 from .speakers import UNANSWERED, Asked, Client, Operator, Speaker, shown, without_tag
 from .versions import add_version
 
@@ -60,6 +62,8 @@ REFUSED_PLAN = 3
 MOST_WAITING = 128
 # Clients of 64 users need so many open files at most.
 MOST_FILES = 4096
+# What a user may be called.
+NAME = re.compile(r"[a-z0-9-]{1,32}", re.ASCII)
 # Who is at the other end of a socket, as the system says it: the numbers of a process, an account and a group.
 PEER = struct.Struct("@3i")
 
@@ -87,14 +91,14 @@ class Server:
 
     def prepare(self) -> None:
         """Takes the sockets away that a killed `serve` has left, and sees that each user has his group. A plan that can't be
-        read is left to `live`. If the plan was accepted before, the sockets are opened at once: when that is must not show
-        how long anybody's record is."""
+        read is left to `live`. If it can be, the sockets are opened at once: when that is must not show how long anybody's
+        record is."""
         names = [name for users in users_in(self.plan) for name in users]
         for name in [*names, OPERATOR]:
             with contextlib.suppress(Refused):
                 self.folder.remove_dead(socket_path(self.folder.path, name))
         self.groups_of(names)
-        if names and not self.folder.is_first:
+        if names and OPERATOR not in names and all(NAME.fullmatch(it) for it in names):
             self.open(names)
 
     def groups_of(self, users: list[str]) -> list[int | None]:
@@ -276,6 +280,8 @@ class Server:
             needed = Needed(domains, *rooms, self.folder.path)
             for text in (needed.told(), *needed.warnings()):
                 self.reports.say(f"serve: {text}")
+        unread = (len(self.speakers) - 1) * MOST_OF_USER
+        self.reports.say(f"serve: what users don't read may take {shown_size(unread)} of memory more")
 
     async def hear(self) -> None:
         """Hands on what `live` says until its output ends. What a speaker is told at once is told in one piece."""
@@ -301,6 +307,7 @@ class Server:
         pause = self.words.patience / WATCHES
         while True:
             await asyncio.sleep(pause)
+            running.give_back()
             live = self.live
             if live is None or not self.is_up or self.is_stopping:
                 continue
@@ -432,7 +439,7 @@ class Server:
             task.cancel()
         self.folder.remove_sockets()
         for client in clients:
-            client.writer.close()
+            client.backlog.end()
         await asyncio.gather(*self.accepting, return_exceptions=True)
 
 
