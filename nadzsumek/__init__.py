@@ -6,6 +6,8 @@
         ann.join(0, 1)
         ann.load(0, "hello.s")
         print(ann.collect(0, count=6, seconds=5))
+
+In a notebook `%load_ext nadzsumek` gives cells `%%occam` and `%%t414`.
 """
 
 from __future__ import annotations
@@ -15,11 +17,26 @@ from typing import Any
 
 # Where each name is. A module is imported when a name of it is first used: the compiler of occam needs none of them.
 _MODULES = {
-    "Farm": "farm",
+    **dict.fromkeys(("Farm", "serve"), "farm"),
+    "load_ipython_extension": "notebook",
     **dict.fromkeys(("FarmError", "NoFarm", "NotAnswered", "Refused"), "failures"),
     **dict.fromkeys(("Loaded", "Look", "Note", "Rest", "State", "Why"), "results"),
 }
-__all__ = ["Farm", "FarmError", "Loaded", "Look", "NoFarm", "NotAnswered", "Note", "Refused", "Rest", "State", "Why"]
+__all__ = [
+    "Farm",
+    "FarmError",
+    "Loaded",
+    "Look",
+    "NoFarm",
+    "NotAnswered",
+    "Note",
+    "Refused",
+    "Rest",
+    "State",
+    "Why",
+    "load_ipython_extension",
+    "serve",
+]
 
 
 def __getattr__(name: str) -> Any:

@@ -6,9 +6,11 @@ import asyncio
 import contextlib
 import os
 import socket
+import subprocess
+import tempfile
 import threading
 import time
-from collections.abc import Callable
+from collections.abc import Callable, Iterator
 from typing import TYPE_CHECKING, Any
 
 from nadzsumek.serving import folder as folders
@@ -66,6 +68,33 @@ class Farm:
     def async_user(self, name: str, noted: Noted | None = None, seconds: float = SECONDS) -> AsyncUser:
         """The same for asyncio, to be used in `async with`."""
         return AsyncUser(*self.place(name), noted, seconds)
+
+
+@contextlib.contextmanager
+def serve(plan: str | os.PathLike[str], *words: str) -> Iterator[Farm]:
+    """A farm on the plan of this file for as long as a `with` lasts, in a folder of its own that is removed then. The words are those
+    of `serve`, such as `--room 16M`."""
+    with tempfile.TemporaryDirectory(prefix="nadzsumek-") as room:
+        call = [folders.program("serve"), *words, os.fspath(plan), room]
+        with subprocess.Popen(
+            call, stdin=subprocess.DEVNULL, stdout=subprocess.DEVNULL, stderr=subprocess.PIPE, encoding="utf-8"
+        ) as it:
+            assert it.stderr
+            told = []
+            for line in it.stderr:
+                told.append(line.rstrip("\n"))
+                if "their sockets are in " in line:
+                    break
+            else:
+                raise NoFarm("\n".join(told[-3:]).removeprefix("serve: "))
+            hearing = threading.Thread(target=it.stderr.read, daemon=True)
+            hearing.start()
+            try:
+                yield Farm(room)
+            finally:
+                it.terminate()
+                it.wait()
+                hearing.join()
 
 
 def connected(folder: str, name: str) -> socket.socket:

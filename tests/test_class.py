@@ -110,8 +110,9 @@ def test_start_is_broken_off(live: str) -> None:
             told, status = screen.end()
             time.sleep(0.2)
         pattern = (
-            rf"\^?C?farm-1: not up yet, and its serve \(process {serve}\) goes on\. class status {it.folder} shows "
-            rf"when it is up, and class stop {it.folder} ends it\n"
+            rf"\^?C?farm-1: not up yet after \d+ seconds, and its serve \(process {serve}\) goes on: serve: another live "
+            rf"\(process \d+\) still has {it.folder}/farm-1/records\. It is waited until that ends, 60 seconds at most\. "
+            rf"class status {it.folder} shows when it is up, and class stop {it.folder} ends it\n"
         )
         assert (status, pattern, re.fullmatch(pattern, told) is not None or told) == (130, pattern, True)
         # the records are free now

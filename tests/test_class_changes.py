@@ -48,7 +48,7 @@ sys.exit(classes.main(sys.argv[1:]))
 # What is said while it is waited, which a busy machine makes longer.
 WAITING = re.compile("no answer yet after|not off yet")
 # What a farm itself writes as long as it is up.
-OWN = re.compile(r"\.sock$|/(class\.)?lock$|/serve\.log$")
+OWN = re.compile(r"\.sock$|/(class\.)?lock$|/serve\.log$|/pace$")
 
 
 class Changing(Course):
@@ -410,10 +410,11 @@ def test_wrong_changes_change_nothing() -> None:
         )
         if os.getuid() == 0:
             os.chown(f"{it.folder}/class.json", 65534, -1)
-            assert (
-                it.refused("remove", "student-1").split(",")[0]
-                == "class: course/class.json belongs to the account nobody"
-            )
+            before = it.files()
+            for order in (("remove", it.folder, "student-1"), ("status", it.folder), ("check", it.folder, "x", "y")):
+                done = it.call(*order)
+                said = f"class: {it.folder}/class.json belongs to the account nobody"
+                assert (done.returncode, done.stderr.split(",")[0], it.files() == before) == (1, said, True)
         assert it.lock(1) == serving
 
 

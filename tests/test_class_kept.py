@@ -12,6 +12,7 @@ import time
 from collections.abc import Callable, Iterator
 
 import pytest
+from nadzsumek.serving import checking
 from nadzsumek.serving.changing import hold
 from nadzsumek.serving.checking import copied
 from nadzsumek.serving.folder import Refused
@@ -157,6 +158,17 @@ def test_what_others_may_write_is_refused() -> None:
         assert (text_of(victim), os.path.getsize(f"{it.room.name}/page") > 0) == ("mine", True)
 
 
+def test_a_class_of_a_wide_mask_is_told_what_to_do() -> None:
+    """Of a class whose files a group may write, as an earlier version made it, one command is said that mends all."""
+    with Course(17) as it:
+        run(["chmod", "-R", "g+w", it.folder])
+        done = it.call("status", it.folder)
+        told = done.stderr.partition("and then ")[2].removesuffix(" forbids it\n")
+        assert (done.returncode, told[:5]) == (1, "find ")
+        assert run(["sh", "-c", told]).status == 0
+        assert it.must("start") == "farm-1: up, 16 users\nfarm-2: up, 1 user\n"
+
+
 def test_a_folder_with_links_is_refused() -> None:
     """A class is made in no folder that leads elsewhere."""
     with Course(1) as it:
@@ -243,11 +255,13 @@ def test_a_start_that_fails_tells_no_record() -> None:
         assert b"bob.replay" in it.process.communicate(timeout=SECONDS)[1]
 
 
-def test_sockets_tell_nothing_of_records() -> None:
-    """The sockets are there at once when a farm goes on, whatever `live` says of records."""
+@pytest.mark.parametrize("is_first", [False, True])
+def test_sockets_tell_nothing_of_records(is_first: bool) -> None:
+    """The sockets are there at once when a farm is started, whatever `live` says of records; also if it has no folder or plan yet."""
     with Served(PLAN, starts=False) as it:
-        os.mkdir(it.folder)
-        put(f"{it.folder}/plan", PLAN)
+        if not is_first:
+            os.mkdir(it.folder)
+            put(f"{it.folder}/plan", PLAN)
         it.env["LIVE"] = put(f"{it.room.name}/live", SAYING.replace("echo", "true"))
         os.chmod(it.env["LIVE"], 0o755)
         it.begun = subprocess.Popen(it.call(), env=it.env, stdin=subprocess.DEVNULL, stderr=subprocess.PIPE)
@@ -277,6 +291,18 @@ def test_no_program_is_a_link(folder: str) -> None:
     os.symlink(f"{folder}/mine", f"{folder}/ada.s")
     with pytest.raises(Refused, match="it is a link"):
         copied(f"{folder}/ada.s", f"{folder}/room/ada.s")
+
+
+def test_a_test_may_take_processor_time(folder: str, monkeypatch: pytest.MonkeyPatch) -> None:
+    """A program of an exercise is ended by the processor time that it takes, and not by the clock of a busy machine."""
+    monkeypatch.setattr(checking, "SECONDS", 1)
+    for does, outcome in (
+        ("while :; do :; done", (None, "", "it took more than 1 seconds of a processor")),
+        ("sleep 3; echo done", (0, "done\n", "")),
+    ):
+        monkeypatch.setenv("LAB", put(f"{folder}/lab", f"#!/bin/sh\n{does}\n"))
+        os.chmod(f"{folder}/lab", 0o755)
+        assert checking.lab(folder, "run") == outcome
 
 
 def test_few_whys_are_on_their_way() -> None:

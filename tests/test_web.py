@@ -3,17 +3,21 @@
 pictures of the pages."""
 
 import concurrent.futures
+import http.client
 import json
 import os
+import shutil
 import socket
 import sqlite3
+import ssl
 import stat
+import subprocess
 import time
 from collections.abc import Iterator
 
 import pytest
 from support import browser
-from support.pages import HOST, Pages
+from support.pages import HOST, Pages, free_port
 from support.serving_trials import SECONDS
 from support.trials import TOP, contents, put, text_of
 
@@ -224,6 +228,44 @@ def test_wall(pages: Pages) -> None:
     assert sorted(told) == ["student-1", "student-2", "student-3"]
     assert told["student-1"]["person"] == "Student 1"
     assert pages.post("student-1", "/line", line="why").told()["lines"][0] == before
+
+
+@pytest.mark.skipif(not shutil.which("openssl"), reason="there is no openssl here")
+def test_tls(pages: Pages) -> None:
+    """With a certificate nothing goes in the clear, and the cookie goes over TLS alone."""
+    key, cert, port = f"{pages.room.name}/key.pem", f"{pages.room.name}/cert.pem", free_port()
+    names = ["-subj", "/CN=localhost", "-addext", "subjectAltName=DNS:localhost"]
+    call = [
+        "openssl",
+        "req",
+        "-x509",
+        "-newkey",
+        "rsa:2048",
+        "-nodes",
+        "-days",
+        "2",
+        "-keyout",
+        key,
+        "-out",
+        cert,
+        *names,
+    ]
+    subprocess.run(call, check=True, capture_output=True)
+    web = pages.served("--cert", cert, "--key", key, "--address", f"https://localhost:{port}", place=f"{HOST}:{port}")
+    try:
+        context = ssl.create_default_context(cafile=cert)
+        it = http.client.HTTPSConnection("localhost", port, context=context, timeout=SECONDS)
+        it.request("GET", f"/enter/{pages.secret('student-1')}")
+        answer = it.getresponse()
+        assert (answer.status, "; Secure" in answer.headers["Set-Cookie"]) == (200, True)
+        it.close()
+        clear = http.client.HTTPConnection(HOST, port, timeout=SECONDS)
+        clear.request("GET", "/")
+        with pytest.raises((http.client.BadStatusLine, ConnectionError)):
+            clear.getresponse()
+        clear.close()
+    finally:
+        assert pages.end(web) == 0
 
 
 def test_words(pages: Pages) -> None:

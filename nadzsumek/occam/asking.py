@@ -115,7 +115,11 @@ def run_lab(program: str, words: list[str]) -> NoReturn:
 
 def start(program: str, words: list[str]) -> NoReturn:
     """Runs the lab with these words. The film that it prints becomes a page, unless the words ask for JSON. Programs are run and
-    checked here, by plans and scripts that are made for them."""
+    checked here, by plans and scripts that are made for them, and editors are served."""
+    if words == ["dap"]:
+        from nadzsumek.debugging.adapter import main as serve_editor
+
+        sys.exit(serve_editor([sys.executable, "-S", "-B", "-P", os.path.abspath(__file__), program]))
     if words[:1] == ["check"]:
         from nadzsumek.web.handing import own_check
 

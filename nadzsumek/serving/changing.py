@@ -7,34 +7,19 @@ import fcntl
 import os
 import re
 import shlex
-import shutil
 import signal
 import time
 from collections.abc import Iterator
-from typing import TYPE_CHECKING
+from typing import TYPE_CHECKING, NoReturn
 
-from .folder import (
-    CLASS,
-    CLASS_LOCK,
-    COPY_MODE,
-    FOLDER_MODE,
-    OWN_FILE,
-    PLAN,
-    Refused,
-    build,
-    check_own,
-    check_own_file,
-    is_locked,
-    locker,
-    made,
-    put_whole,
-)
+from .folder import CLASS, CLASS_LOCK, OWN_FILE, PLAN, Refused, build, is_locked, locker
 from .holders import serve_of
-from .kept import class_in
+from .kept import own_class
 from .places import parts_of, text_of
-from .records import records_of
+from .records import PIECE, records_of
+from .replacement import Replacement, discard, go_back, is_left, mend
 from .sheets import count
-from .status import ask_operator
+from .status import AGAIN, ask_operator
 from .supervising import Awaited, AwaitedChange, supervisor_of
 from .upkeep import INTERRUPTED, Start, Stop, all_done, say
 
@@ -47,8 +32,6 @@ if TYPE_CHECKING:
 UNIT = re.compile(r"class@.*\.service")
 # The line between the plan of a record and its events, and how many bytes its plan has at most.
 DIVIDER, MOST_HEAD = b"\n---\n", 1 << 16
-# How the name of a sheet ends.
-SHEET = ".txt"
 ANSWER_SECONDS = 10
 
 
@@ -61,19 +44,28 @@ class StopForChange(Stop):
     )
 
 
+def lock(course: str, file: int, how: int) -> None:
+    """Locks the open file of a class, or says who has it."""
+    try:
+        fcntl.lockf(file, how | fcntl.LOCK_NB)
+    except OSError:
+        raise Refused(
+            f"another class is at work at {course}, process {locker(file)}: wait until it has ended"
+        ) from None
+
+
 @contextlib.contextmanager
-def hold(course: str, how: int) -> Iterator[None]:
-    """Holds a class, for this process alone (LOCK_EX) or beside others that start and stop its farms (LOCK_SH)."""
-    check_own(os.path.realpath(course))
-    check_own_file(os.path.join(course, CLASS))
+def hold(course: str, how: int, mends: bool = True) -> Iterator[None]:
+    """Holds a class, for this process alone (LOCK_EX) or beside others that start and stop its farms (LOCK_SH). An order that was
+    cut short is ended before, unless it isn't to be."""
     file = os.open(os.path.join(course, CLASS_LOCK), os.O_RDWR | os.O_CREAT | os.O_NOFOLLOW, OWN_FILE)
     try:
-        try:
-            fcntl.lockf(file, how | fcntl.LOCK_NB)
-        except OSError:
-            raise Refused(
-                f"another class is at work at {course}, process {locker(file)}: wait until it has ended"
-            ) from None
+        lock(course, file, how)
+        if mends and is_left(course):
+            lock(course, file, fcntl.LOCK_EX)
+            with undisturbed():
+                mend(course)
+            lock(course, file, how)
         yield
     finally:
         os.close(file)
@@ -82,7 +74,7 @@ def hold(course: str, how: int) -> Iterator[None]:
 @contextlib.contextmanager
 def changing(course: str) -> Iterator[Change]:
     """A change of a class that no other process changes, starts or stops meanwhile."""
-    class_in(course)
+    own_class(course)
     with hold(course, fcntl.LOCK_EX):
         yield Change(course)
 
@@ -114,31 +106,14 @@ def starting(kept: Kept, farm: str, course: str, users: list[str], supervised: t
     return supervised(farm, course, len(users), words)
 
 
-def rewritten(path: str, text: bytes | None) -> None:
-    """Writes a file anew, with the mode that it had; a new sheet is for this account alone. None removes it."""
-    if text is None:
-        os.unlink(path)
-        return
-    mode = os.lstat(path).st_mode & 0o777 if os.path.lexists(path) else OWN_FILE if path.endswith(SHEET) else COPY_MODE
-    put_whole(path, text, mode)
-
-
-def contents(path: str) -> bytes | None:
-    """What a file has; none if it isn't there."""
-    try:
-        with open(path, "rb") as it:
-            return it.read()
-    except FileNotFoundError:
-        return None
-
-
-def copied(path: str, old: str, name: str, new: str) -> None:
-    """Copies a record under a new path, with another name of its user in its plan."""
-    with open(path, "rb") as here, open(os.open(new, os.O_WRONLY | os.O_CREAT | os.O_EXCL, OWN_FILE), "wb") as there:
-        head, divider, rest = here.read(MOST_HEAD).partition(DIVIDER)
-        there.write(head.replace(b'name = "%s"' % old.encode(), b'name = "%s"' % name.encode(), 1) if divider else head)
-        there.write(divider + rest)
-        shutil.copyfileobj(here, there)
+def renamed(path: str, old: str, name: str) -> Iterator[bytes]:
+    """A record with another name of its user in its plan, in pieces."""
+    with open(path, "rb") as it:
+        head, divider, rest = it.read(MOST_HEAD).partition(DIVIDER)
+        yield head.replace(b'name = "%s"' % old.encode(), b'name = "%s"' % name.encode(), 1) if divider else head
+        yield divider + rest
+        while piece := it.read(PIECE):
+            yield piece
 
 
 def number_of(path: str, name: str) -> int:
@@ -147,7 +122,7 @@ def number_of(path: str, name: str) -> int:
 
 
 def outs(farm: str) -> set[str]:
-    """The users whose records couldn't be taken."""
+    """The users whose records couldn't be taken. A farm that does its records again is refused: it would begin with that anew."""
     try:
         answers = ask_operator(farm, "!users", ANSWER_SECONDS)
     except OSError as error:
@@ -155,6 +130,10 @@ def outs(farm: str) -> set[str]:
             f"{os.path.basename(farm)} is up, but its operator isn't answered ({error.strerror or error}): try again "
             "when class status shows it"
         ) from None
+    if any(it.split(" ")[2:3] == [AGAIN] for it in answers):
+        raise Refused(
+            f"{os.path.basename(farm)} does its records again: try again when class status shows that it is up"
+        )
     return {words[1] for it in answers if "out" in (words := it.split(" "))[5:]}
 
 
@@ -162,17 +141,15 @@ class Change:
     """What is to become of a class. Until it is done nothing is written."""
 
     def __init__(self, course: str) -> None:
-        self.course, self.kept = os.path.abspath(course), class_in(course)
+        self.course, self.kept = os.path.abspath(course), own_class(course)
         self.farms = {farm: [*names] for farm, names in self.kept.farms.items()}
         self.removed, self.earlier = dict(self.kept.removed), dict(self.kept.earlier)
         self.parts: dict[str, list[Part]] = {}
         self.touched: list[str] = []
         self.files: dict[str, bytes | None] = {}
-        # the records that begin, each with the one of which it is a copy under another name; and whose records begin
-        self.records: dict[str, tuple[str, str, str] | None] = {}
-        self.fresh: list[tuple[str, set[str], str]] = []
-        self.before: dict[str, bytes | None] = {}
-        self.made: list[str] = []
+        # whose records begin, and whose go on under another name: the farm with the user, and with the new name
+        self.begun: list[tuple[str, str]] = []
+        self.renamed: list[tuple[str, str, str]] = []
 
     def of(self, farm: str) -> list[Part]:
         """The parts of a farm's plan, as they are to be."""
@@ -220,15 +197,6 @@ class Change:
         if farm not in self.touched:
             self.touched.append(farm)
 
-    def begin_anew(self, farm: str, user: str) -> str:
-        """Lets the next record of a student begin, if he has any: an empty one is a beginning."""
-        paths = records_of(os.path.join(farm, "records"), user)
-        if paths:
-            path = os.path.join(farm, "records", f"{user}.{number_of(paths[-1], user) + 1}.replay")
-            self.records[path] = None
-            return path
-        return os.path.join(farm, "records", f"{user}.replay")
-
     def written(self) -> None:
         """Adds the plans and what is kept to the files."""
         for farm in self.touched:
@@ -242,48 +210,36 @@ class Change:
         after = self.kept._replace(farms=self.farms, machine=self.machine(), removed=self.removed, earlier=self.earlier)
         self.files[os.path.join(self.course, CLASS)] = after.text().encode()
 
-    def apply(self) -> None:
-        """Writes all files. No farm that is touched is up."""
-        self.fresh = [
-            (farm, {*records_of(os.path.join(farm, "records"), it.name)}, it.name)
-            for farm in self.touched
-            for it in self.of(farm)
-            if it.name not in self.kept.farms.get(farm, [])
-        ]
-        for path, source in self.records.items():
-            if source is None:
-                with open(os.open(path, os.O_WRONLY | os.O_CREAT | os.O_EXCL, OWN_FILE), "wb"):
-                    pass
-            else:
-                copied(*source, path)
+    def drafted(self) -> Replacement:
+        """All files but the records, as they are to be."""
+        it = Replacement(self.course)
         for path, text in self.files.items():
-            folder = os.path.dirname(path)
-            if not os.path.isdir(folder):
-                self.made += made(folder, FOLDER_MODE)
-            self.before[path] = contents(path)
-            rewritten(path, text)
+            it.put(path, text)
+        return it
 
-    def undo(self) -> None:
-        """Makes all as it was."""
-        for path, text in self.before.items():
-            if text is not None or os.path.exists(path):
-                rewritten(path, text)
-        news = [
-            path
-            for farm, before, name in self.fresh
-            for path in {*records_of(os.path.join(farm, "records"), name)} - before
-        ]
-        for path in {*self.records, *news}:
-            with contextlib.suppress(FileNotFoundError):
-                os.unlink(path)
-        for folder in reversed(self.made):
-            shutil.rmtree(folder, ignore_errors=True)
-
-    def settle(self) -> None:
-        """Removes the records that go on under another name."""
-        for source in self.records.values():
-            if source is not None:
-                os.unlink(source[0])
+    def apply(self, it: Replacement) -> None:
+        """Puts all into its place, when no farm that is touched is up. Of a student whose machine begins anew an empty record
+        comes last, for his next record would begin there."""
+        new = [(farm, user) for farm, _, user in self.renamed] + self.begun
+        records = {(farm, user): records_of(os.path.join(farm, "records"), user) for farm, user in new}
+        for farm, before, user in self.renamed:
+            for path in records_of(os.path.join(farm, "records"), before):
+                name = user + os.path.basename(path)[len(before) :]
+                it.put_record(os.path.join(farm, "records", name), renamed(path, before, user))
+                it.put(path, None)
+        for farm, user in self.begun:
+            if paths := records[farm, user]:
+                it.put_record(os.path.join(farm, "records", f"{user}.{number_of(paths[-1], user) + 1}.replay"), [])
+        it.commit(
+            [
+                (
+                    os.path.relpath(os.path.join(farm, "records"), self.course),
+                    user,
+                    [os.path.basename(path) for path in paths],
+                )
+                for (farm, user), paths in records.items()
+            ]
+        )
 
     def start_of(self, farm: str, users: list[str], supervised: type[Start] = AwaitedChange) -> Start:
         """The start of a farm: by the supervisor of the class, if it has one."""
@@ -314,13 +270,12 @@ class Change:
         begun = time.monotonic()
         with undisturbed():
             try:
-                failed = all_done([StopForChange(farm, self.course) for farm in stopping])
-                if failed:
+                draft = self.drafted()
+                if failed := all_done([StopForChange(farm, self.course) for farm in stopping]):
                     raise Refused("\n".join(f"{it.name}: {it.told_at_last()}" for it in failed))
-                self.apply()
+                self.apply(draft)
             except (OSError, Refused) as error:
-                self.go_back(stopping)
-                raise Refused(f"{error}\nall is as it was") from None
+                self.go_back(stopping, f"{error}")
         starts = [self.start_of(farm, self.farms[farm]) for farm in self.touched if up and farm in self.farms]
         return self.started(starts, stopping, before, begun)
 
@@ -335,22 +290,28 @@ class Change:
                 if not wrong and (more := outs(it.folder) - before.get(it.folder, set()))
             ]
         except KeyboardInterrupt:
-            self.settle()
+            discard(self.course)
             for it in starts:
                 say(f"{it.name}: {it.outcome[1] if it.outcome else it.left()}")
             return INTERRUPTED
         if wrong:
             with undisturbed():
                 all_done([Stop(it.folder, self.course) for it in starts])
-                self.go_back(stopping)
-            raise Refused("\n".join([*wrong, "all is as it was"]))
-        self.settle()
+                self.go_back(stopping, "\n".join(wrong))
+        discard(self.course)
         for it in starts:
             away = f", and was away for {time.monotonic() - begun:.1f} s" if it.folder in stopping else ""
             say(f"{it.name}: up, {count(it.users, 'user')}{away}")
         return 0
 
-    def go_back(self, stopping: list[str]) -> None:
-        """Makes all as it was, and starts the farms that were up."""
-        self.undo()
-        all_done([self.start_of(farm, self.kept.farms[farm], Awaited) for farm in stopping])
+    def go_back(self, stopping: list[str], why: str) -> NoReturn:
+        """Makes all as it was, starts the farms that were up, and says why."""
+        told = [why]
+        try:
+            go_back(self.course)
+            told.append("all is as it was")
+        except (OSError, Refused) as error:
+            told.append(f"{error}\nthe next order makes all as it was")
+        failed = all_done([self.start_of(farm, self.kept.farms[farm], Awaited) for farm in stopping])
+        told += [f"{it.name}: {it.told_at_last()}" for it in failed]
+        raise Refused("\n".join(told))

@@ -6,6 +6,7 @@ import argparse
 import os
 import re
 import shutil
+import signal
 import subprocess
 import tempfile
 from concurrent.futures import ThreadPoolExecutor
@@ -17,7 +18,7 @@ from .coming import person_of
 from .escapes import escaped
 from .exercises import LANGUAGES, MOST_STEPS, OWN_FOLDER, exercise_in, is_own
 from .folder import Refused, build, program, put_whole
-from .kept import class_in
+from .kept import own_class
 from .marks import as_csv, as_page, as_table
 from .plans import VERSION, user_name
 from .values import as_letters, as_numbers
@@ -27,8 +28,13 @@ if TYPE_CHECKING:
 
 # The user whose machine it is, and the file in which a test is.
 USER, SCRIPT = "student", "test.farm"
-# How long a test may take, whatever it does, and how large a program may be.
-SECONDS, MOST_BYTES = 60, 1 << 20
+# How many seconds of a processor a test may take, whatever it does, and how many by the clock on a machine that has no time; and how
+# large a program may be.
+SECONDS, MOST_SECONDS, MOST_BYTES = 60, 600, 1 << 20
+# By this a shell becomes a program that may take so many seconds of a processor.
+WITHIN = ["sh", "-c", 'ulimit -t "$0"; exec "$@"']
+# How a program ends that took more.
+ENDED = (-signal.SIGXCPU, -signal.SIGKILL)
 # The status of `lab` that had to do more Steps than it may.
 TOO_MANY = 7
 OCCAM, LINE_END = ".occ", "\n"
@@ -62,17 +68,19 @@ def lab(folder: str, *words: str, text: bytes | None = None) -> tuple[int | None
     try:
         # a student's text of occam is compiled within bounds
         done = subprocess.run(
-            [program("lab"), *words],
+            [*WITHIN, f"{SECONDS}", program("lab"), *words],
             cwd=folder,
             stdin=subprocess.DEVNULL if text is None else None,
             input=text,
             env={**os.environ, BOUNDED: "yes"},
             capture_output=True,
-            timeout=SECONDS,
+            timeout=MOST_SECONDS,
             check=False,
         )
     except subprocess.TimeoutExpired:
-        return None, "", f"it took more than {SECONDS} seconds"
+        return None, "", f"it took more than {MOST_SECONDS} seconds"
+    if done.returncode in ENDED:
+        return None, "", f"it took more than {SECONDS} seconds of a processor"
     return done.returncode, done.stdout.decode(errors="replace"), done.stderr.decode(errors="replace").strip()
 
 
@@ -277,7 +285,7 @@ def check(words: list[str]) -> int:
         "PROGRAMS", help="the folder of the programs: NAME.occ or NAME.s for each student, or a folder NAME"
     )
     it = parser.parse_args(words)
-    kept, exercise = class_in(it.DIR), exercise_in(it.EXERCISE)
+    kept, exercise = own_class(it.DIR), exercise_in(it.EXERCISE)
     users = [name for names in kept.farms.values() for name in names]
     found, others = programs_in(it.PROGRAMS, users)
     build("class", "lab")

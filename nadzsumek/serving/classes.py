@@ -6,6 +6,7 @@ import argparse
 import fcntl
 import os
 import shlex
+import signal
 import sys
 from collections.abc import Callable
 from concurrent.futures import ThreadPoolExecutor
@@ -18,26 +19,23 @@ from .escapes import escaped, set_errors
 from .finishing import finish
 from .folder import (
     CLASS,
-    COPY_MODE,
     FOLDER_MODE,
-    OWN_FILE,
     PROVED,
     Refused,
     add_proved,
     build,
     check_own,
-    check_own_file,
     is_locked,
     made,
     mode_of,
     own_plan,
     program,
-    put_whole,
     refuse_unproved,
     socket_path,
 )
-from .kept import Kept, Rooms, class_in, keep
+from .kept import Kept, Rooms, own_class
 from .plans import LIMIT, Machine, farms_of, plan_of, students_of
+from .replacement import is_left, replace
 from .rooms import RECORD_ROOM, ROOM, Needed, add_rooms
 from .sheets import count, sheet, sheet_path, ways_of
 from .status import table, told_by
@@ -79,20 +77,24 @@ def make(words: argparse.Namespace) -> int:
     for farm in farms:
         for name in farms[farm]:
             socket_path(os.path.join(folder, farm), name)
-    for it in ("sheets", *farms):
-        made(os.path.join(folder, it), FOLDER_MODE)
-        check_own(os.path.join(folder, it))
+    made(folder, FOLDER_MODE)
     check_own(folder)
+    for it in ("sheets", *farms):
+        if os.path.lexists(os.path.join(folder, it)):
+            check_own(os.path.join(folder, it))
+    files = {}
     for farm, names in farms.items():
         place = os.path.join(folder, farm)
-        put_whole(os.path.join(place, "plan.toml"), plan_of(names, machine).encode(), COPY_MODE)
+        files[os.path.join(place, "plan.toml")] = plan_of(names, machine).encode()
         for name in names:
-            text = sheet(students[name], name, machine, place, ways)
-            put_whole(sheet_path(folder, name), text.encode(), OWN_FILE)
+            files[sheet_path(folder, name)] = sheet(students[name], name, machine, place, ways).encode()
     rights = ["--mode", f"{words.mode:03o}"] + (["--group", words.group] if words.group else [])
     rights += [PROVED] if words.proved else []
     rooms = Rooms(words.room, words.record_room)
-    keep(folder, Kept(farms, rights, rooms, machine))
+    files[os.path.join(folder, CLASS)] = Kept(farms, rights, rooms, machine).text().encode()
+    with hold(folder, fcntl.LOCK_EX):
+        check_free(words.DIR)
+        replace(folder, files)
     print("".join(f"note: {escaped(it)}\n" for it in notes), end="")
     print(
         f"{count(len(students), 'student')} in {count(len(farms), 'farm')}, each with {count(machine.ports(), 'port')}; "
@@ -104,11 +106,11 @@ def make(words: argparse.Namespace) -> int:
 
 def start(folder: str) -> int:
     """Starts each farm that isn't served yet, and waits until it answers."""
-    if PROVED in class_in(folder).rights:
+    if PROVED in own_class(folder).rights:
         refuse_unproved()
     build("class", "live", "lab")
     with hold(folder, fcntl.LOCK_SH):
-        kept = class_in(folder)
+        kept = own_class(folder)
         return do_all([starting(kept, farm, folder, names) for farm, names in kept.farms.items()])
 
 
@@ -123,7 +125,7 @@ def start_with(words: list[str]) -> int:
     add_proved(parser)
     parser.add_argument("DIR", help="the folder of the class")
     it = parser.parse_args(words)
-    kept = class_in(it.DIR)
+    kept = own_class(it.DIR)
     rooms = Rooms(it.room or kept.rooms.room, it.record_room or kept.rooms.record_room)
     rights = kept.rights + ([PROVED] if it.proved and PROVED not in kept.rights else [])
     if (rooms, rights) != (kept.rooms, kept.rights):
@@ -133,7 +135,8 @@ def start_with(words: list[str]) -> int:
                     f"{os.path.basename(farm)} is up, as it was started: class stop {shlex.quote(it.DIR)} first"
                 )
         with hold(it.DIR, fcntl.LOCK_EX):
-            keep(it.DIR, class_in(it.DIR)._replace(rooms=rooms, rights=rights))
+            text = own_class(it.DIR)._replace(rooms=rooms, rights=rights).text()
+            replace(os.path.abspath(it.DIR), {os.path.join(os.path.abspath(it.DIR), CLASS): text.encode()})
         say_rooms(it.DIR, sum(len(names) for names in kept.farms.values()), rooms)
     return start(it.DIR)
 
@@ -148,11 +151,14 @@ def serve(*words: str) -> int:
             "course/farm-1"
         )
     farm = os.path.abspath(farm)
-    if os.path.isfile(os.path.join(farm, CLASS)):
-        check_own_file(os.path.join(farm, CLASS))
-        class_in(farm)
+    is_whole = os.path.isfile(os.path.join(farm, CLASS))
+    course = farm if is_whole else os.path.dirname(farm)
+    kept = own_class(course)
+    if is_left(course):
+        with hold(course, fcntl.LOCK_EX):
+            kept = own_class(course)
+    if is_whole:
         return Supervisor(farm, more).run()
-    kept = class_in(os.path.dirname(farm))
     if farm not in kept.farms:
         raise Refused(
             f"{farm} is no farm of its class: there are {', '.join(os.path.basename(it) for it in kept.farms)}"
@@ -163,15 +169,15 @@ def serve(*words: str) -> int:
 
 def stop(folder: str) -> int:
     """Stops each farm. Its records stay, and it goes on from them when it is started again."""
-    class_in(folder)
-    with hold(folder, fcntl.LOCK_SH):
+    own_class(folder)
+    with hold(folder, fcntl.LOCK_SH, mends=False):
         tell(folder, LEAVE_OFF)
-        return do_all([Stop(farm, folder) for farm in class_in(folder).farms])
+        return do_all([Stop(farm, folder) for farm in own_class(folder).farms])
 
 
 def status(folder: str) -> int:
     """Prints a row for each student, and below them how much memory each farm has that answers, and whether it is proved."""
-    farms = class_in(folder).farms
+    farms = own_class(folder).farms
     # a farm that doesn't answer delays no other's rows
     with ThreadPoolExecutor(MOST_ASKED) as pool:
         told = [*pool.map(told_by, farms.keys(), farms.values())]
@@ -183,7 +189,7 @@ def status(folder: str) -> int:
 
 def check_record(folder: str, name: str, file: str) -> int:
     """Says whether a file is what the farm has recorded of a student."""
-    how, lines = verify(folder, class_in(folder), name, file)
+    how, lines = verify(folder, own_class(folder), name, file)
     print("\n".join(escaped(it) for it in lines))
     return how
 
@@ -257,8 +263,8 @@ a class that is there:
   class remove DIR NAME ..    removes students. Their records, plans and sheets stay until the class is finished
   class change DIR NAME       gives a student a machine of another shape, which begins anew, with --nodes N [--hosts H]
   class rename DIR OLD NEW    gives a student another name; the records go with him
-  class finish DIR [ARCHIVE]  stops the class, and puts all records, plans and sheets into an archive (DIR.tar.xz unless
-                              given); with --remove what the archive has is removed then
+  class finish DIR [ARCHIVE]  puts all records, plans and sheets into an archive (DIR.tar.xz unless given); with --remove the
+                              class is stopped, and what the archive has is removed then
   class verify DIR NAME FILE  says whether a file is what the farm has recorded of a student
   class check DIR EXERCISE PROGRAMS
                               tries each student's program in an exercise, in farms of its own, and prints a table; also for
@@ -355,6 +361,10 @@ def done(given: list[str]) -> int:
 
 def main(given: list[str]) -> int:
     set_errors(sys.stdout, "backslashreplace")
+    for it in (signal.SIGTERM, signal.SIGHUP):
+        # a terminal that is closed, or a service manager, breaks an order off as Ctrl-C does
+        if signal.getsignal(it) is signal.SIG_DFL:
+            signal.signal(it, signal.default_int_handler)
     try:
         try:
             return done(given)

@@ -120,7 +120,7 @@ def find_place(change: Change, user: str, machine: Machine) -> tuple[str, Part]:
         if ranges is not None:
             part = part_of(machine.domain(user, ranges))
             change.put(farm, part)
-            change.begin_anew(farm, user)
+            change.begun.append((farm, user))
             return farm, part
     raise AssertionError
 
@@ -248,11 +248,12 @@ def change_one(words: list[str]) -> int:
         part = part_of(machine.domain(user, ranges))
         change.put(farm, part, at)
         path = write_sheet(change, person_of(change.course, user), part, farm)
-        record = change.begin_anew(farm, user)
+        change.begun.append((farm, user))
         status = change.carry_out()
+        record = os.path.basename([f"{user}.replay", *records_of(os.path.join(farm, "records"), user)][-1])
         say_all(
             [
-                f"{user} has {shape(machine)} now, and begins anew with {os.path.basename(record)}; the sheet is "
+                f"{user} has {shape(machine)} now, and begins anew with {record}; the sheet is "
                 f"{shown(given.DIR, path)}"
             ]
         )
@@ -289,9 +290,7 @@ def rename(course: str, old: str, person: str) -> int:
         change.parts[farm] = [part if it.name == before else it for it in change.of(farm)]
         change.farms[farm] = [user if it == before else it for it in change.farms[farm]]
         change.touch(farm)
-        for path in records_of(os.path.join(farm, "records"), before):
-            new = os.path.join(farm, "records", user + os.path.basename(path)[len(before) :])
-            change.records[new] = path, before, user
+        change.renamed.append((farm, before, user))
         names = [it for it in change.earlier.pop(before, []) if it not in (before, user)]
         change.earlier[user] = [*names, before]
         if os.path.exists(sheet_path(change.course, before)):

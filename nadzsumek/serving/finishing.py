@@ -3,29 +3,40 @@
 from __future__ import annotations
 
 import argparse
+import collections
 import contextlib
+import lzma
 import os
 import re
 import signal
+import stat
+import sys
 import tarfile
+import time
 from collections.abc import Iterator
-from typing import IO, TYPE_CHECKING
+from concurrent.futures import Future, ThreadPoolExecutor
+from typing import IO, TYPE_CHECKING, NamedTuple, cast
 
-from .changing import changing
+from .changing import changing, outs, undisturbed
 from .coming import REMOVED
 from .escapes import escaped
-from .folder import CLASS, LOG, OWN_FILE, PLAN, Refused, is_locked, new_file
+from .folder import CLASS, LOG, OWN_FILE, PLAN, Refused, build, new_file, sync
 from .records import PIECE, records_of
+from .replacement import Replacement, discard
+from .rooms import shown
 from .sheets import count
-from .supervising import tell
-from .upkeep import Stop, all_done
+from .supervising import Awaited, tell
+from .upkeep import SAY_SECONDS, Start, Stop, all_done, begin_all, say
 
 if TYPE_CHECKING:
     from .changing import Change
 
 ENDING = ".tar.xz"
 # What `class`, `serve` and `live` make for themselves, and that is nobody's work.
-OWN = re.compile(r"^(class\.)?lock$|\.sock$")
+OWN = re.compile(r"^((class\.)?lock|pace)$|\.sock$")
+# How much an archive is squeezed, in pieces of so many bytes, of which so many are on their way. Records of thirty students are
+# squeezed in minutes.
+PRESET, SQUEEZED, MOST_PIECES = 1, 1 << 22, min(os.cpu_count() or 1, 8)
 
 
 def entries_of(folder: str) -> list[str]:
@@ -63,41 +74,114 @@ def plain(it: tarfile.TarInfo) -> tarfile.TarInfo:
     return it
 
 
-def is_same(archive: tarfile.TarFile, path: str, name: str) -> bool:
-    """Whether a file is in an archive as it is."""
-    there = archive.extractfile(name)
-    if there is None:
-        return False
-    with open(path, "rb") as here, there:
-        while True:
-            piece = here.read(PIECE)
-            if piece != there.read(PIECE):
-                return False
-            if not piece:
-                return True
+class Item(NamedTuple):
+    """What the archive has: its path, its name there, another name of the same file that stays while the farm goes on, and how
+    many bytes are taken of it."""
+
+    path: str
+    name: str
+    held: str
+    size: int
 
 
-def write(change: Change, file: IO[bytes]) -> list[str]:
-    """Writes the archive, and reads it again. What it has."""
-    top = os.path.dirname(change.course)
-    names = {path: os.path.relpath(path, top) for path in paths_of(change)}
-    with tarfile.open(fileobj=file, mode="w:xz") as archive:
-        for path, name in names.items():
-            archive.add(path, name, recursive=False, filter=plain)
-    file.seek(0)
-    with tarfile.open(fileobj=file, mode="r:xz") as archive:
-        for path, name in names.items():
-            if not os.path.isdir(path) and not is_same(archive, path, name):
-                raise Refused(f"{path} isn't in the archive as it is, so nothing is removed")
+def checked(change: Change) -> list[str]:
+    """The paths of what the archive is to have. What is neither a file nor a folder is refused."""
+    paths = [*paths_of(change)]
+    for path in paths[1:]:
+        kind = os.lstat(path).st_mode
+        if not stat.S_ISREG(kind) and not stat.S_ISDIR(kind):
+            raise Refused(f"{path} is no file of its own: move it away, or put a copy of the file in its place")
+    return paths
+
+
+def taken(change: Change) -> list[Item]:
+    """Takes what is there, when no farm is up: each file gets a second name, and what comes behind its bytes isn't taken."""
+    draft, top = Replacement(change.course).draft, os.path.dirname(change.course)
+    items = []
+    for number, path in enumerate(checked(change)):
+        held = os.path.join(draft, f"{number}")
+        if os.path.isdir(path):
+            held = path
+        else:
+            os.link(path, held, follow_symlinks=False)
+        items.append(Item(path, os.path.relpath(path, top), held, os.lstat(held).st_size))
+    return items
+
+
+class Squeezed:
+    """A file into which an archive is squeezed in pieces, side by side. As a person waits, it is said how far that is."""
+
+    def __init__(self, file: IO[bytes], pool: ThreadPoolExecutor, size: int) -> None:
+        self.file, self.pool, self.size, self.count = file, pool, size, 0
+        self.held, self.last = bytearray(), time.monotonic()
+        self.pieces: collections.deque[Future[bytes]] = collections.deque()
+
+    def write(self, piece: bytes) -> int:
+        self.held += piece
+        self.count += len(piece)
+        if len(self.held) >= SQUEEZED:
+            self.hand_on(MOST_PIECES)
+        if time.monotonic() > self.last + SAY_SECONDS:
+            self.last = time.monotonic()
+            say(f"{shown(self.count)} of {shown(self.size)} are in the archive")
+        return len(piece)
+
+    def hand_on(self, most: int) -> None:
+        """Squeezes what is held, and writes what was squeezed, until no more pieces than these are on their way."""
+        self.pieces.append(self.pool.submit(lzma.compress, bytes(self.held), preset=PRESET))
+        self.held.clear()
+        while len(self.pieces) > most:
+            self.file.write(self.pieces.popleft().result())
+
+
+def write(items: list[Item], file: IO[bytes]) -> None:
+    """Writes the archive, and reads it again."""
+    size = sum(it.size for it in items)
+    with ThreadPoolExecutor(MOST_PIECES) as pool:
+        squeezed = Squeezed(file, pool, size)
+        with tarfile.open(fileobj=cast(IO[bytes], squeezed), mode="w|", bufsize=PIECE) as archive:
+            for it in items:
+                info = plain(archive.gettarinfo(it.held, it.name))
+                if info.isdir():
+                    archive.addfile(info)
+                    continue
+                info.size = it.size
+                with open(it.held, "rb") as here:
+                    archive.addfile(info, here)
+        squeezed.hand_on(0)
     os.fsync(file.fileno())
-    return [*names]
+    file.seek(0)
+    said = time.monotonic()
+    with lzma.open(file) as unpacked, tarfile.open(fileobj=unpacked, mode="r|") as archive:
+        for entry, it in zip(archive, items, strict=True):
+            if entry.name != it.name or (entry.isfile() and not is_same(archive.extractfile(entry), it)):
+                raise Refused(f"{it.path} isn't in the archive as it is, so nothing is removed")
+            if time.monotonic() > said + SAY_SECONDS:
+                said = time.monotonic()
+                say(f"the archive is read again: {shown(entry.offset)} of {shown(size)}")
 
 
-def without(course: str, paths: list[str]) -> list[str]:
+def is_same(there: IO[bytes] | None, it: Item) -> bool:
+    """Whether what the archive has is the file as it was taken."""
+    left = it.size
+    with open(it.held, "rb") as here:
+        while there and left:
+            piece = here.read(min(PIECE, left))
+            if not piece or piece != there.read(len(piece)):
+                return False
+            left -= len(piece)
+    return not left
+
+
+def without(course: str, items: list[Item]) -> list[str]:
     """Removes what the archive has, and the locks and sockets, which have nothing in them; the files that stay."""
-    folders = [it for it in paths if os.path.isdir(it)]
-    more = [os.path.join(at, it) for at in folders for it in os.listdir(at) if OWN.search(it)]
-    for path in {*paths, *more} - {*folders}:
+    folders = [it.path for it in items if os.path.isdir(it.path)]
+    for it in items:
+        now = None if it.path in folders or not os.path.lexists(it.path) else os.lstat(it.path)
+        if now and now.st_size == it.size and os.path.samestat(now, os.lstat(it.held)):
+            os.unlink(it.path)
+    discard(course)
+    for path in [os.path.join(at, it) for at in folders for it in os.listdir(at) if OWN.search(it)]:
         os.unlink(path)
     for folder in reversed(folders):
         with contextlib.suppress(OSError):
@@ -118,51 +202,74 @@ def check_place(change: Change, path: str) -> None:
         raise Refused(f"the archive {path} would be in the folder of the class: choose another folder")
 
 
-def stop_all(change: Change) -> list[str]:
-    """Stops all farms, and says which were up. If one can't be stopped, those are started again."""
-    up = [farm for farm in change.kept.farms if is_locked(farm)]
-    failed = all_done([Stop(farm, change.course) for farm in up])
-    if failed:
-        change.go_back([farm for farm in up if not is_locked(farm)])
-        raise Refused("\n".join([*(f"{it.name}: {it.told_at_last()}" for it in failed), "all is as it was"]))
-    return up
+@contextlib.contextmanager
+def stopped(change: Change, is_last: bool) -> Iterator[tuple[list[Item], list[Start]]]:
+    """What the archive is to have, and the farms that start again when that is taken; if the class ends none does. If it fails, or
+    is broken off, all that were up are started."""
+    checked(change)
+    change.touched = [*change.kept.farms]
+    up = change.up()
+    if up:
+        build("class", "live")
+    for farm in up:
+        outs(farm)
+    ended = [Stop(farm, change.course) for farm in up]
+    starts = [change.start_of(farm, change.kept.farms[farm], Awaited) for farm in up]
+    try:
+        with undisturbed():
+            if failed := all_done(ended):
+                raise Refused("\n".join(f"{it.name}: {it.told_at_last()}" for it in failed))
+            items = taken(change)
+            if not is_last:
+                begin_all(starts)
+        yield items, [] if is_last else starts
+    except BaseException as error:
+        with undisturbed():
+            failed = all_done(starts)
+        told = [f"{it.name}: {it.told_at_last()}" for it in failed]
+        if not isinstance(error, OSError | Refused):
+            print("".join(f"{escaped(it)}\n" for it in told), end="", file=sys.stderr)
+            raise
+        raise Refused("\n".join([f"{error}", *(told or ["all is as it was"])])) from None
+    finally:
+        discard(change.course)
 
 
 def finish(words: list[str]) -> int:
-    """Stops a class, and puts all that its students did into one archive."""
+    """Puts all that the students of a class did into one archive."""
     parser = argparse.ArgumentParser(
         prog="class finish",
         usage="class finish [--remove] DIR [ARCHIVE]",
-        description="Stops a class, and puts all that its students did into one archive.",
+        description="Puts all that the students of a class did into one archive.",
     )
     parser.add_argument(
         "--remove",
         action="store_true",
-        help="removes from the folder of the class what the archive has, when that is whole",
+        help="stops the class, and removes from its folder what the archive has, when that is whole",
     )
     parser.add_argument("DIR", help="the folder of the class")
     parser.add_argument("ARCHIVE", nargs="?", help=f"the archive, DIR{ENDING} unless given")
     it = parser.parse_args(words)
+    left: list[str] = []
     with changing(it.DIR) as change:
         path = os.path.abspath(it.ARCHIVE or f"{change.course}{ENDING}")
         check_place(change, path)
-        up = stop_all(change)
-        try:
-            with open(new_file(f"{path}.new", OWN_FILE), "w+b") as file:
-                paths = write(change, file)
-            os.rename(f"{path}.new", path)
-        except (OSError, Refused) as error:
-            change.go_back(up)
-            raise Refused(f"{error}\nall is as it was") from None
-        finally:
-            with contextlib.suppress(FileNotFoundError):
-                os.unlink(f"{path}.new")
         users = users_of(change)
-        records = sum(len(records_of(os.path.join(farm, "records"), name)) for name, farm in users)
-        left: list[str] = []
-        if it.remove:
-            tell(change.course, signal.SIGTERM)
-            left = without(change.course, paths)
+        with stopped(change, it.remove) as (items, starts):
+            try:
+                with open(new_file(f"{path}.new", OWN_FILE), "w+b") as file:
+                    write(items, file)
+                os.rename(f"{path}.new", path)
+                sync(os.path.dirname(path))
+            finally:
+                with contextlib.suppress(FileNotFoundError):
+                    os.unlink(f"{path}.new")
+            records = sum(os.path.basename(os.path.dirname(item.path)) == "records" for item in items)
+            if it.remove:
+                with undisturbed():
+                    tell(change.course, signal.SIGTERM)
+                    left = without(change.course, items)
+        failed = all_done(starts)
     print("".join(f"note: {escaped(path)} stays: the archive hasn't it\n" for path in left), end="")
     gone = f", {len(change.kept.removed)} of them removed" if change.kept.removed else ""
     print(
@@ -171,4 +278,6 @@ def finish(words: list[str]) -> int:
             f"{count(os.path.getsize(path), 'byte')}"
         )
     )
-    return 0
+    for work in failed:
+        say(f"{work.name}: {work.told_at_last()}")
+    return 1 if failed else 0

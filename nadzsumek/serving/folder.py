@@ -33,6 +33,9 @@ NOT_PROVED = "note: the program of this farm isn't proved yet"
 PLAN = "plan"
 # What is kept of a class, in the folder above those of its farms.
 CLASS = "class.json"
+# The folder of what is put into its place by an order of a class, and of what is taken back: see replacement.py. As long as one of
+# them is there, some files of the class are as before an order and others as after it.
+CLASS_READY, CLASS_BACK = "class.ready", "class.back"
 # What a `class` locks that changes a class, or starts and stops its farms. No other account can open it.
 CLASS_LOCK = "class.lock"
 # What the `serve` of a farm of a class says, in the folder of the farm.
@@ -242,6 +245,14 @@ def check_own_file(path: str) -> None:
         raise Refused(f"other accounts may write {path}: look at what it says, and then chmod go-w {path} forbids it")
 
 
+def check_whole(course: str) -> None:
+    """Refuses a farm of a class of which an order is half done: its plan and its records may not fit."""
+    if any(os.path.exists(os.path.join(course, it)) for it in (CLASS_READY, CLASS_BACK)):
+        raise Refused(
+            f"an order of the class in {course} was cut short: class start {shlex.quote(course)} ends it first"
+        )
+
+
 def own_plan(farm: str) -> str:
     """The path of the plan of a farm of a class, which nobody else can have written."""
     path = os.path.join(farm, "plan.toml")
@@ -302,6 +313,7 @@ class Folder:
             new = made(self.path, FOLDER_MODE)
             check_own(self.path)
             self.lock()
+            check_whole(os.path.dirname(self.path))
             new += made(self.records, OWN_MODE)
         except (FileExistsError, NotADirectoryError):
             raise Refused(f"{self.path} is no folder, and can't be made: choose another") from None

@@ -59,3 +59,17 @@ def live_at(records: str) -> int | None:
     path = os.path.realpath(os.path.join(records, "lock"))
     numbers = (int(it) for it in os.listdir("/proc") if it.isdecimal())
     return next((it for it in numbers if it != os.getpid() and has_open(it, path)), None)
+
+
+def work_of(number: int) -> int:
+    """How many ticks of processor time the children of a process have taken, as far as that is known."""
+    ticks = 0
+    with contextlib.suppress(OSError, ValueError, IndexError):
+        with open(f"/proc/{number}/task/{number}/children", encoding="ascii") as it:
+            children = it.read().split()
+        for child in children:
+            with open(f"/proc/{child}/stat", encoding="ascii", errors="replace") as it:
+                # behind the name, which may have blanks and brackets, come the state and ten numbers more
+                words = it.read().rpartition(")")[2].split()
+            ticks += int(words[11]) + int(words[12])
+    return ticks

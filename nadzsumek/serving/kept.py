@@ -8,7 +8,7 @@ import os
 import shlex
 from typing import Any, NamedTuple
 
-from .folder import CLASS, COPY_MODE, OPERATOR, Refused, put_whole
+from .folder import CLASS, OPERATOR, OTHERS_WRITE, Refused, check_own, check_own_file
 from .plans import Machine, user_name
 from .rooms import RECORD_ROOM, ROOM, bytes_of
 
@@ -51,11 +51,6 @@ class Kept(NamedTuple):
         return next((farm for farm, names in self.farms.items() if user in names), None)
 
 
-def keep(folder: str, kept: Kept) -> None:
-    """Writes down what runs. A terminal reads in it in which farm its user is."""
-    put_whole(os.path.join(folder, CLASS), kept.text().encode(), COPY_MODE)
-
-
 def read(folder: str, kept: dict[str, Any]) -> Kept:
     """What the file says. A value of a wrong kind is an error of one kind or another."""
     farms, rights, rooms = kept["farms"], kept["rights"], Rooms(**kept.get("rooms", {}))
@@ -96,6 +91,22 @@ def class_in(folder: str) -> Kept:
         raise Refused(
             f"{path} isn't as class wrote it: put back a copy, or make the class anew in another folder"
         ) from None
+
+
+def own_class(folder: str) -> Kept:
+    """What is kept of a class that this account has made, and in which no other may write."""
+    kept, top = class_in(folder), os.path.realpath(folder)
+    path = os.path.join(folder, CLASS)
+    farms = [os.path.join(top, os.path.basename(it)) for it in kept.farms]
+    parts = [top, path, *farms, *(os.path.join(it, "plan.toml") for it in farms)]
+    if sum(os.path.exists(it) and bool(os.stat(it).st_mode & OTHERS_WRITE) for it in parts) > 1:
+        raise Refused(
+            f"other accounts may write in {folder}, as its mask was when the class was made: see that class.json and the "
+            f"plans are as you left them, and then find {shlex.quote(folder)} ! -type s -exec chmod go-w {{}} + forbids it"
+        )
+    check_own(top)
+    check_own_file(path)
+    return kept
 
 
 def student_in(farms: dict[str, list[str]], name: str, course: str) -> tuple[str, str]:

@@ -21,7 +21,7 @@ Tell = Callable[[str], object]
 MOST_STARTS = 5
 WITHIN = 60
 # By this call of Linux a process says by which signal it is to end when its parent has ended.
-PRCTL, END_WITH_PARENT = ctypes.CDLL(None).prctl, 1
+SYSTEM, END_WITH_PARENT = ctypes.CDLL(None), 1
 # How long it is waited for another `live` at the records.
 LOCK_SECONDS = 60
 # The statuses of docs/LIVE.md that the program's words, the plan and the records have, and what it says of records that
@@ -34,7 +34,7 @@ KEPT, MOST_TOLD = 20, 4096
 # program itself is there again.
 PAUSES = (1, 2, 4, 8, 16)
 # What `live` says of a record that it does again: whose record it is, and how far it is.
-DONE_AGAIN = re.compile(r"(?:.*/)?([^/]+)\.replay: (\d+ of \d+ MiB) are done again")
+DONE_AGAIN = re.compile(r"(?:.*/)?([^/]+)\.replay: (\d+ of \d+ (?:MiB|Steps)) are done again")
 # What it says of a line whose user it doesn't know, since it had no memory to read the name.
 NOBODYS = re.compile(r"error (\d+) user")
 
@@ -48,10 +48,16 @@ def how(status: int) -> str:
 
 def end_with(parent: int) -> None:
     """Sees that this process, which is to become `live`, ends when `serve` does, however that ends."""
-    PRCTL(END_WITH_PARENT, signal.SIGKILL)
+    SYSTEM.prctl(END_WITH_PARENT, signal.SIGKILL)
     if os.getppid() != parent:
         # serve has ended before
         os._exit(1)
+
+
+def give_back() -> None:
+    """Gives the system back what this process has freed, if the system's library can."""
+    if hasattr(SYSTEM, "malloc_trim"):
+        SYSTEM.malloc_trim(0)
 
 
 class Live:

@@ -18,6 +18,7 @@ from typing import TYPE_CHECKING
 
 from . import running
 from .accepting import accept
+from .backlogs import MOST_OF_USER
 from .escapes import escaped
 from .folder import (
     NOT_PROVED,
@@ -35,9 +36,11 @@ from .folder import (
     refuse_unproved,
     socket_path,
 )
+from .replays import SAY_SECONDS, Replay
 from .ports import Wiring, found_in, ports_told, users_in, wiring_in
 from .reports import Reports, open_streams
 from .rooms import RECORD_ROOM, ROOM, Needed, add_rooms
+from .rooms import shown as shown_size
 from .speakers import UNANSWERED, Asked, Client, Operator, Speaker, shown, without_tag
 from .versions import add_version
 
@@ -61,6 +64,8 @@ REFUSED_PLAN = 3
 MOST_WAITING = 128
 # Clients of 64 users need so many open files at most.
 MOST_FILES = 4096
+# What a user may be called.
+NAME = re.compile(r"[a-z0-9-]{1,32}", re.ASCII)
 # Who is at the other end of a socket, as the system says it: the numbers of a process, an account and a group.
 PEER = struct.Struct("@3i")
 
@@ -75,7 +80,7 @@ class Server:
         self.is_up, self.is_stopping, self.is_proved = False, False, True
         # set while lines are handed on, or refused since the farm is stopped
         self.goes = asyncio.Event()
-        self.starts = running.Starts()
+        self.starts, self.replay = running.Starts(), Replay(self.folder.path)
         self.speakers: dict[str, Speaker] = {}
         self.operator: Operator
         self.accepting: list[asyncio.Task[None]] = []
@@ -88,14 +93,14 @@ class Server:
 
     def prepare(self) -> None:
         """Takes the sockets away that a killed `serve` has left, and sees that each user has his group. A plan that can't be
-        read is left to `live`. If the plan was accepted before, the sockets are opened at once: when that is must not show
-        how long anybody's record is."""
+        read is left to `live`. If it can be, the sockets are opened at once: when that is must not show how long anybody's
+        record is."""
         names = [name for users in users_in(self.plan) for name in users]
         for name in [*names, OPERATOR]:
             with contextlib.suppress(Refused):
                 self.folder.remove_dead(socket_path(self.folder.path, name))
         self.groups_of(names)
-        if names and not self.folder.is_first:
+        if names and OPERATOR not in names and all(NAME.fullmatch(it) for it in names):
             self.open(names)
 
     def groups_of(self, users: list[str]) -> list[int | None]:
@@ -176,6 +181,9 @@ class Server:
         if (news := speaker.news(text)) is not None:
             self.tell_all(f"the operator says: {escaped(news.decode(errors='surrogateescape'))}")
             return
+        if speaker.name == OPERATOR and not self.goes.is_set() and (answers := self.answers_of_replay(text)):
+            client.tell(b"".join(tag + it for it in answers))
+            return
         asked = await speaker.enter(text, client, tag)
         await self.goes.wait()
         if client.is_gone() or self.is_stopping:
@@ -186,6 +194,27 @@ class Server:
             self.say_ports(speaker, asked)
             return
         speaker.sent(self.current_live().say(speaker.line(text)), asked)
+
+    def answers_of_replay(self, text: bytes) -> list[bytes]:
+        """What the operator is answered while records are done again: who waits for how long. Other lines wait too."""
+        words = self.operator.words(text)
+        if words == [b"!memory"]:
+            return [b"!memory again\n"]
+        told = f" {self.replay.words()}\n".encode()
+        return (
+            [b"!users " + it.encode() + told for it in self.speakers if it != OPERATOR] if words == [b"!users"] else []
+        )
+
+    async def say_replay(self) -> None:
+        """Says now and then how long records are done again. Users hear nothing of it, for it is of the records of all."""
+        while True:
+            await asyncio.sleep(SAY_SECONDS)
+            self.tell_operator(f"serve: {self.replay.told()}")
+
+    def tell_operator(self, text: str) -> None:
+        self.reports.say(text)
+        if OPERATOR in self.speakers:
+            self.speakers[OPERATOR].tell(f"note: {escaped(text)}\n".encode())
 
     def read_wirings(self, users: list[str]) -> None:
         """Reads in the plan what these users have, unless it is known: it is asked for also when no file can be opened."""
@@ -224,13 +253,11 @@ class Server:
 
     def hear_error(self, text: str) -> None:
         """Hands on a line of the standard error of `live`: to the operator, and to whose domain is done again."""
-        self.reports.say(text)
         if found := running.DONE_AGAIN.fullmatch(text):
             self.tell_progress(*found.groups())
         if found := running.NOBODYS.fullmatch(text):
             self.give_up(int(found[1]))
-        if OPERATOR in self.speakers:
-            self.speakers[OPERATOR].tell(f"note: {escaped(text)}\n".encode())
+        self.tell_operator(text)
 
     def give_up(self, number: int) -> None:
         """Names a line that `live` couldn't read to who sent it."""
@@ -255,6 +282,8 @@ class Server:
             needed = Needed(domains, *rooms, self.folder.path)
             for text in (needed.told(), *needed.warnings()):
                 self.reports.say(f"serve: {text}")
+        unread = (len(self.speakers) - 1) * MOST_OF_USER
+        self.reports.say(f"serve: what users don't read may take {shown_size(unread)} of memory more")
 
     async def hear(self) -> None:
         """Hands on what `live` says until its output ends. What a speaker is told at once is told in one piece."""
@@ -280,6 +309,7 @@ class Server:
         pause = self.words.patience / WATCHES
         while True:
             await asyncio.sleep(pause)
+            running.give_back()
             live = self.live
             if live is None or not self.is_up or self.is_stopping:
                 continue
@@ -301,7 +331,13 @@ class Server:
 
     async def begin(self) -> None:
         """Starts `live`, opens the sockets if they aren't open yet, and says to whom lines go."""
-        self.live, users = await running.begin(self.call(), self.folder.records, self.begun, self.hear_error)
+        self.replay = Replay(self.folder.path)
+        saying = asyncio.ensure_future(self.say_replay())
+        try:
+            self.live, users = await running.begin(self.call(), self.folder.records, self.begun, self.hear_error)
+        finally:
+            saying.cancel()
+        self.replay.keep()
         if not self.speakers:
             self.open(users)
         elif users != [*self.speakers][:-1]:
@@ -405,7 +441,7 @@ class Server:
             task.cancel()
         self.folder.remove_sockets()
         for client in clients:
-            client.writer.close()
+            client.backlog.end()
         await asyncio.gather(*self.accepting, return_exceptions=True)
 
 

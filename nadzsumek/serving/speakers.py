@@ -9,6 +9,7 @@ from collections.abc import Awaitable, Callable
 from typing import TYPE_CHECKING
 
 from ..mistakes.verbs import goes_on
+from .backlogs import MOST_BACKLOG, MOST_OF_USER, Backlog, Held
 from .lines import MOST_LINE, PIECE, Lines
 from .pace import Pace
 
@@ -24,11 +25,11 @@ MOST_OF_OPERATOR = 16
 BYTES_OF_ONE = 1 << 12
 # `why` may do many Steps before it is answered, so it counts as so many lines: the operator's restart waits for few of them.
 WHY, OF_WHY = b"why", 50
-# A client that lets more bytes than this wait for it is cut off.
-MOST_BACKLOG = 1 << 20
 MOST_CLIENTS = 16
 # So many bytes of a speaker's half lines are read at once, and then so many in a second.
 HALF_AT_ONCE, HALF_A_SECOND = 2 << 20, 1 << 20
+# Each restart begins a file of its own, however little is in it: a speaker's are sent so many at once, and then so many in a second.
+RESTART, RESTARTS_AT_ONCE, RESTARTS_A_SECOND = b"restart", 20, 1
 # So much of a line is told to its user if it wasn't answered.
 MOST_TOLD = 200
 # What `live` is asked now and then. The thread that reads answers it, without a lock.
@@ -74,9 +75,11 @@ class Speaker:
         self.name, self.most = name, most
         self.prefix = name.encode() + b" "
         self.clients: set[Client] = set()
+        self.held = Held()
         self.asked: dict[int, Asked] = {}
         self.room, self.turn = asyncio.Semaphore(most), asyncio.Lock()
         self.half_lines = Pace(HALF_AT_ONCE, HALF_A_SECOND)
+        self.restarts = Pace(RESTARTS_AT_ONCE, RESTARTS_A_SECOND)
 
     def line(self, text: bytes) -> bytes:
         """The line of `live` for a client's line."""
@@ -92,6 +95,8 @@ class Speaker:
         async with self.turn:
             for _ in range(size):
                 await self.room.acquire()
+            if text.removesuffix(b"\r") == RESTART:
+                await asyncio.sleep(self.restarts.pause(1))
         return Asked(text, client, size, tag)
 
     def stops(self, _: bytes) -> bool:
@@ -236,16 +241,23 @@ class Client:
         self.speaker, self.writer = speaker, writer
         self.lines = Lines(reader, MOST_LINE, speaker.half_lines)
         self.waits, self.has_ended, self.has_tags = 0, False, False
+        self.backlog = Backlog(writer, speaker.held)
 
     def tell(self, text: bytes) -> None:
-        """Hands over what the client is to read; if it has let too much wait, it is cut off."""
-        transport = self.writer.transport
+        """Hands over what the client is to read. A client that lets too much wait is cut off."""
         if self.is_gone() or not text:
             return
-        if transport.get_write_buffer_size() > MOST_BACKLOG:
-            transport.abort()
+        if self.backlog.size > MOST_BACKLOG:
+            self.cut_off()
             return
-        self.writer.write(text)
+        self.backlog.tell(text)
+        while self.speaker.held.size > MOST_OF_USER and self.speaker.clients:
+            max(self.speaker.clients, key=lambda it: it.backlog.size).cut_off()
+
+    def cut_off(self) -> None:
+        self.writer.transport.abort()
+        self.backlog.drop()
+        self.speaker.clients.discard(self)
 
     def share(self, text: bytes, asked: Asked | None) -> bytes:
         """What this client gets of a line of an answer: all of a note; what answers its own line, behind the line's tag; and
@@ -268,7 +280,7 @@ class Client:
 
     def rest(self) -> None:
         if self.has_ended and self.waits == 0:
-            self.writer.close()
+            self.backlog.end()
 
     async def serve(self, send: Callable[[Speaker, Client, bytes], Awaitable[None]]) -> None:
         """Sends each line of the client until it ends, and keeps it until all of them are answered."""
@@ -295,4 +307,5 @@ class Client:
         except OSError:
             self.writer.transport.abort()
         finally:
+            self.backlog.drop()
             self.speaker.clients.discard(self)

@@ -4,11 +4,13 @@ from __future__ import annotations
 
 import contextlib
 import os
+import re
 import socket
 
 from .escapes import escaped
 from .folder import NOT_PROVED, OPERATOR, is_locked, socket_path
 from .records import last_fault
+from .replays import told
 
 # How long a farm may take for what its operator asks.
 SECONDS = 10
@@ -22,6 +24,9 @@ HEAD = ("user", "farm", "lines", "events", "used", "room", "records", "now", "la
 WORDS, ROOMS = 4, 4
 # What a row has in their place if no `serve` has the farm, and if one has it and doesn't answer.
 OFF, SILENT = "off", "no answer"
+# What stands behind a user's name while records are done again: for how many seconds, of how many bytes, and if they are known
+# the same two numbers of the last start.
+AGAIN = "again"
 MIB = 1 << 20
 
 
@@ -55,12 +60,12 @@ def used_of(recorded: int, limit: int) -> str:
     return "full" if recorded >= limit else "little" if limit - recorded < BURST else f"{100 * recorded / limit:.1f}%"
 
 
-def row_of(folder: str, name: str, told: list[str] | str) -> tuple[str, ...]:
+def row_of(folder: str, name: str, said: list[str] | str) -> tuple[str, ...]:
     """A student's row, of the words that `!users` has of him, or of why there are none."""
     farm, fault = os.path.basename(folder), last_fault(os.path.join(folder, "records"), name)
-    if isinstance(told, str):
-        return (name, farm, "-", "-", "-", "-", "-", told, fault)
-    (lines, recorded, limit), more = (int(it) for it in told[: WORDS - 1]), told[WORDS - 1 :]
+    if isinstance(said, str):
+        return (name, farm, "-", "-", "-", "-", "-", said, fault)
+    (lines, recorded, limit), more = (int(it) for it in said[: WORDS - 1]), said[WORDS - 1 :]
     now, rooms = [it for it in more if not is_number(it)], [int(it) for it in more if is_number(it)]
     room, records = "-", "-"
     if len(rooms) >= ROOMS and rooms[1]:
@@ -70,6 +75,8 @@ def row_of(folder: str, name: str, told: list[str] | str) -> tuple[str, ...]:
 
 def told_of(words: list[str]) -> list[str] | str:
     """The words after a user's name in an answer to `!users`, if they have the form that they should have."""
+    if words[:1] == [AGAIN]:
+        return AGAIN
     numbers = words[: WORDS - 1]
     fits = len(words) >= WORDS and all(is_number(it) for it in numbers) and int(numbers[-1]) > 0
     return words if fits else SILENT
@@ -83,6 +90,10 @@ def remarks_of(folder: str, answers: list[str]) -> list[str]:
     if len(words) >= 3 and all(is_number(it) for it in words[1:3]):
         has, may = (f"{int(it) / MIB:.0f} MiB" for it in words[1:3])
         remarks.append(f"{farm} has {has} of memory, and its rooms may take {may}")
+    again: list[str] = next((it.split(" ")[3:] for it in answers if re.match(rf"!users \S+ {AGAIN} ", it)), [])
+    if len(again) in (2, 4) and all(is_number(it) for it in again):
+        seconds, size, *before = (int(it) for it in again)
+        remarks.append(f"{farm} isn't up yet: {told(seconds, size, (before[0], before[1]) if before else None)}")
     if NOT_PROVED in answers:
         remarks.append(f"{farm} isn't proved yet: ./prove proves it, and it is proved from its next start on")
     return remarks
@@ -95,10 +106,10 @@ def told_by(folder: str, names: list[str]) -> tuple[list[tuple[str, ...]], list[
         without = SILENT
         with contextlib.suppress(OSError):
             answers = ask_operator(folder, "!users\n!memory")
-    told = {
+    users = {
         words[1]: told_of(words[2:]) for it in answers if (words := it.split(" "))[0] == "!users" and len(words) > 1
     }
-    return [row_of(folder, name, told.get(name, without)) for name in names], remarks_of(folder, answers)
+    return [row_of(folder, name, users.get(name, without)) for name in names], remarks_of(folder, answers)
 
 
 def table(rows: list[tuple[str, ...]]) -> list[str]:

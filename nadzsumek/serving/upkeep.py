@@ -7,21 +7,24 @@ import re
 import shlex
 import socket
 import subprocess
+import sys
 import threading
 import time
 from collections.abc import Sequence
 
 from .escapes import escaped
 from .folder import LOG, OWN_FILE, Refused, is_locked, own_plan, program
-from .holders import end_serve, live_at, serve_of
+from .holders import end_serve, live_at, serve_of, work_of
+from .replays import AGAIN_SINCE
 from .sheets import count
 from .status import ask_operator, operators_stream
 
-# How long a farm that begins is waited for after its last word. A long record is done again for minutes, and its progress is
-# reported.
+# How long a farm that begins is waited for after its last word, or after its `live` last took a second of processor time: what
+# a student did for hours is done again for as long.
 QUIET_SECONDS = 120
 # `serve` ends a farm that was asked to stop after 60 seconds at most, and needs a moment for itself.
 STOP_SECONDS = 65
+TICKS = os.sysconf("SC_CLK_TCK")
 # How often it is said what is waited for.
 SAY_SECONDS = 5
 # How long an operator's socket may take for an answer, and how often it is asked.
@@ -31,9 +34,12 @@ ANSWER_SECONDS, PAUSE = 3, 0.05
 LAST_SECONDS = 5
 # How often a `serve` is begun that finds the folder in use for a moment.
 MOST_BEGUN = 3
-TAKEN = b"is served already"
+TAKEN = "is served already"
 # The time with which a line of `serve` begins.
 TIME = re.compile(r"^\d{4}-\d\d-\d\d \d\d:\d\d:\d\d ")
+# What it says of connections, such as those by which it is asked; and with that what it says as long as nothing is new.
+OF_CONNECTIONS = re.compile(r"the operator's socket$")
+NO_NEWS = re.compile(rf"{OF_CONNECTIONS.pattern}|: {AGAIN_SINCE} ")
 # How many bytes of the end of its log are looked at.
 LAST_BYTES = 4096
 # The status of a program that Ctrl-C has ended.
@@ -41,7 +47,16 @@ INTERRUPTED = 130
 
 
 def say(text: str) -> None:
-    print(escaped(text), flush=True)
+    """Says how it goes on. That nobody reads it any more, as when a terminal is closed, hinders nothing."""
+    try:
+        print(escaped(text), flush=True)
+    except OSError:
+        os.dup2(os.open(os.devnull, os.O_WRONLY), sys.stdout.fileno())
+
+
+def last_of(said: str, besides: re.Pattern[str]) -> str:
+    """The last line of what was said, besides those that are like this."""
+    return next((it for it in reversed(said.split("\n")) if it and not besides.search(it)), "")
 
 
 def is_up(farm: str) -> bool:
@@ -69,9 +84,10 @@ class Work(threading.Thread):
             self.outcome = False, f"{error}"
 
     def begin(self) -> None:
-        """Begins it, unless the system has no thread for it."""
+        """Begins it unless it has begun, or the system has no thread for it."""
         try:
-            self.start()
+            if self.ident is None:
+                self.start()
         except RuntimeError as error:
             self.outcome = False, f"nothing is done with it: {error}. See ulimit -u, and give the order again"
 
@@ -110,7 +126,7 @@ class Start(Work):
         self.process: subprocess.Popen[bytes] | None = None
         self.log, self.last = os.path.join(folder, LOG), self.begun
         self.size: int | None = None
-        self.news = ("", 0)
+        self.news = ("", "", 0)
 
     def done(self) -> tuple[bool, str]:
         while not is_up(self.folder):
@@ -149,25 +165,29 @@ class Start(Work):
             )
 
     def is_quiet(self) -> bool:
-        """Whether it isn't waited any longer, since nothing new was seen."""
-        news = self.whose(), os.path.getsize(self.log) if os.path.exists(self.log) else 0
+        """Whether it isn't waited any longer, since nothing new was seen, and nothing is done again."""
+        number = serve_of(self.folder)
+        said = self.log_from(0) if os.path.exists(self.log) else ""
+        news = self.whose(), last_of(said, NO_NEWS), work_of(number) // TICKS if number else 0
         if news != self.news:
             self.news, self.last = news, time.monotonic()
         return time.monotonic() > self.last + QUIET_SECONDS
 
-    def said(self) -> bytes:
-        """What the `serve` that was begun here has said last."""
-        if self.size is None:
-            return b""
+    def log_from(self, size: int) -> str:
+        """The end of the log, behind so many bytes."""
         with open(self.log, "rb") as log:
             end = log.seek(0, os.SEEK_END)
-            log.seek(max(self.size, end - LAST_BYTES))
-            return log.read()
+            log.seek(max(size, end - LAST_BYTES))
+            return log.read().decode(errors="surrogateescape")
+
+    def said(self) -> str:
+        """What the `serve` that was begun here has said last."""
+        return "" if self.size is None else self.log_from(self.size)
 
     def told(self) -> str:
         """The last line of that without its time, behind a colon."""
-        lines = self.said().decode(errors="surrogateescape").split("\n")
-        return next((f": {TIME.sub('', it)}" for it in reversed(lines) if it), "")
+        line = last_of(self.said(), OF_CONNECTIONS)
+        return f": {TIME.sub('', line)}" if line else ""
 
     def next_steps(self) -> str:
         course = shlex.quote(self.course)
@@ -177,7 +197,9 @@ class Start(Work):
         return f"no answer yet after {self.seconds()} seconds from {self.whose()}{self.told()}"
 
     def left(self) -> str:
-        return f"not up yet, and {self.whose()} goes on. {self.next_steps()}"
+        return (
+            f"not up yet after {self.seconds()} seconds, and {self.whose()} goes on{self.told()}. {self.next_steps()}"
+        )
 
 
 class Stop(Work):
@@ -272,10 +294,14 @@ class Stop(Work):
         return f"not off yet, but asked to stop: {self.whose()} goes on with that"
 
 
-def all_done(works: Sequence[Work]) -> list[Work]:
-    """Does works side by side, and says each few seconds what is waited for; those that failed."""
+def begin_all(works: Sequence[Work]) -> None:
     for work in works:
         work.begin()
+
+
+def all_done(works: Sequence[Work]) -> list[Work]:
+    """Does works side by side, and says each few seconds what is waited for; those that failed."""
+    begin_all(works)
     while waiting := [it for it in works if it.is_alive()]:
         waiting[0].join(SAY_SECONDS)
         if waiting[0].is_alive():
@@ -286,8 +312,7 @@ def all_done(works: Sequence[Work]) -> list[Work]:
 def do_all(works: Sequence[Work]) -> int:
     """Does works side by side, and says what became of each, in their order, and each few seconds what is waited for; the
     status."""
-    for work in works:
-        work.begin()
+    begin_all(works)
     failed = at = 0
     try:
         while at < len(works):

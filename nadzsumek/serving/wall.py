@@ -13,7 +13,7 @@ from .checking import written
 from .coming import person_of
 from .escapes import escaped
 from .folder import Refused, build, program
-from .kept import class_in
+from .kept import own_class
 from .pages import page
 from .records import records_of
 from .status import told_by
@@ -101,7 +101,7 @@ def row_of(row: tuple[str, ...], person: str, nodes: list[str]) -> str:
 
 def wall_of(course: str, nodes: Nodes, seconds: int | None) -> str:
     """The page."""
-    farms = class_in(course).farms
+    farms = own_class(course).farms
     with ThreadPoolExecutor(len(farms) or 1) as pool:
         rows = [row for rows, _ in pool.map(told_by, farms.keys(), farms.values()) for row in rows]
     places = {user: farm for farm, names in farms.items() for user in names}
@@ -139,7 +139,7 @@ def wall(words: list[str]) -> int:
     parser.add_argument("DIR", help="the folder of the class")
     parser.add_argument("FILE", help="the page's file")
     it = parser.parse_args(words)
-    class_in(it.DIR)
+    own_class(it.DIR)
     if os.path.isdir(it.FILE) or not os.path.isdir(os.path.dirname(os.path.abspath(it.FILE))):
         raise Refused(f"there can be no file {it.FILE}: choose another")
     build("class", "lab")

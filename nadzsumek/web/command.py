@@ -14,8 +14,8 @@ from typing import TYPE_CHECKING, NamedTuple
 
 from ..occam.asking import BOUNDED
 from ..serving.escapes import escaped
-from ..serving.folder import CLASS, OWN_FILE, Refused, build, check_own, check_own_file, put_whole
-from ..serving.kept import class_in, student_in
+from ..serving.folder import OWN_FILE, Refused, build, put_whole
+from ..serving.kept import own_class, student_in
 from .book import TEACHER, Book
 
 if TYPE_CHECKING:
@@ -132,7 +132,7 @@ def new_address(course: str, book: Book, name: str, url: str) -> str:
 
 def new_addresses(course: str, book: Book, url: str) -> list[str]:
     """Makes an address for the teacher and for each student who has none."""
-    kept = class_in(course)
+    kept = own_class(course)
     names = {TEACHER, *(name for names in kept.farms.values() for name in names)}
     return [new_address(course, book, name, url) for name in sorted(names - book.holders())]
 
@@ -163,9 +163,7 @@ def pages(given: list[str]) -> int:
     from .site import Site
 
     course = os.path.abspath(it.DIR)
-    kept = class_in(it.DIR)
-    check_own(course)
-    check_own_file(os.path.join(course, CLASS))
+    kept = own_class(it.DIR)
     tls, url = tls_of(it), url_of(it)
     if it.new is not None or it.new_teacher:
         name = TEACHER if it.new is None else student_in(kept.farms, it.new, it.DIR)[1]

@@ -22,7 +22,7 @@ from ..serving.coming import person_of
 from ..serving.escapes import escaped
 from ..serving.exercises import FILE, Exercise, exercise_in
 from ..serving.folder import CLASS, Refused, build
-from ..serving.kept import class_in
+from ..serving.kept import own_class
 from ..serving.marks import plain
 from .book import Book, Submission
 
@@ -212,7 +212,7 @@ def show(rows: list[list[str]], file: str | None) -> None:
 def submitted(given: list[str]) -> int:
     """Prints what the students of a class have handed in."""
     it = words_of("submitted", "Shows what students have handed in, the oldest first.", given)
-    class_in(it.DIR)
+    own_class(it.DIR)
     book = Book(os.path.abspath(it.DIR))
     rows = [["student", "exercise", "when", "points", "of", "hash", "remark"]]
     for one in book.submissions():
@@ -225,7 +225,7 @@ def submitted(given: list[str]) -> int:
 def marks(given: list[str]) -> int:
     """Prints the points of each student: those of what was handed in last for each exercise."""
     it = words_of("marks", "Shows each student's points: those of what was handed in last.", given)
-    course, kept = os.path.abspath(it.DIR), class_in(it.DIR)
+    course, kept = os.path.abspath(it.DIR), own_class(it.DIR)
     book = Book(course)
     last = {(one.name, one.exercise): one for one in book.submissions()}
     book.close()

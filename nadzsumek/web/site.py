@@ -18,7 +18,7 @@ from ..farm import Farm
 from ..mistakes.verbs import Wrong
 from ..serving.coming import person_of
 from ..serving.folder import Refused
-from ..serving.kept import class_in
+from ..serving.kept import own_class
 from ..serving.programs import ASSEMBLY, OCCAM
 from ..serving.status import told_by
 from ..serving.wall import EVENTS, FAULT, LINES, NOW, ROOM, USER, Nodes
@@ -298,7 +298,7 @@ class Site:
 
     def tiles(self) -> list[dict[str, str]]:
         """What the teacher sees of each student. No machine is asked anything."""
-        farms = class_in(self.course).farms
+        farms = own_class(self.course).farms
         return [
             {
                 "name": row[USER],

@@ -45,9 +45,9 @@ class Pages(Course):
         self.must("start")
         self.web = self.served()
 
-    def served(self) -> subprocess.Popen[str]:
-        """`class web`, once it says where it is."""
-        call = [f"{TOP}/class", "web", "--listen", self.place, self.folder]
+    def served(self, *words: str, place: str | None = None) -> subprocess.Popen[str]:
+        """`class web` with these words, once it says where it is."""
+        call = [f"{TOP}/class", "web", "--listen", place or self.place, *words, self.folder]
         it = subprocess.Popen(call, env=self.env, stdout=subprocess.PIPE, stderr=subprocess.STDOUT, encoding="utf-8")
         assert it.stdout
         told = ""
@@ -56,11 +56,13 @@ class Pages(Course):
             assert told, "class web has ended"
         return it
 
-    def end(self) -> int:
-        self.web.send_signal(signal.SIGTERM)
-        status = self.web.wait(timeout=SECONDS)
-        assert self.web.stdout
-        self.web.stdout.close()
+    def end(self, it: subprocess.Popen[str] | None = None) -> int:
+        """Ends a `class web`; its status."""
+        it = it or self.web
+        it.send_signal(signal.SIGTERM)
+        status = it.wait(timeout=SECONDS)
+        assert it.stdout
+        it.stdout.close()
         return status
 
     def __exit__(self, *_: object) -> None:
