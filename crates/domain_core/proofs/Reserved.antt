@@ -1,4 +1,4 @@
--- Entries of which memory is reserved for a number, for `Entries::kept_law`, `reserve`, `reserve_look` and what appends.
+-- Entries with memory reserved for a number of them, for `Entries::kept_law`, `reserve` and what appends entries.
 use Rattle.std.proofs.Common.{◌≡◌, ℕ, zero, suc, ◌+◌, ◌<◌, ◌≤◌, ◌⊎◌, inl, inr, List, [], ◌∷◌, length, map, refl}
 use Rattle.std.proofs.Common.{arith, sym, subst, ◌∙◌, lt_of_not-le, zero-lt-suc}
 use Rattle.std.specs.List.{All}
@@ -30,7 +30,8 @@ has_left (suc reserved) entries capacity left place =
     let more : entries < suc reserved = lt_of_not-le (λ past. left (zero-lt-suc reserved, past)) in
     omega (arith, more)
 
-stored_not_empty : (seen : List Seen) (e : SmallEntry) → IsStored seen e → IsNotEmpty (entry_of seen e)
+stored_not_empty : (seen : List Seen) (other_entry : SmallEntry) → IsStored seen other_entry
+    → IsNotEmpty (entry_of seen other_entry)
 stored_not_empty seen (One by asked answer) stored = stored
 stored_not_empty seen (Look by asked place) stored = tt
 stored_not_empty seen (Run by node last count) stored = stored

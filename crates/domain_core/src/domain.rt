@@ -111,7 +111,7 @@ impl<O: Outputs + Drop> Domain<O> {
         self.machine.part()
     }
 
-    /// A domain is its journal, of which no entry is empty, and which has no more than memory is reserved for, if it is. Its words
+    /// A domain is its journal. No entry of that is empty, and there are no more than memory is reserved for, if it is. Its words
     /// are a row of its ports, which are as many as the part's count, and it has as many nodes as the part.
     ///
     /// The call does nothing: its contract is the law.

@@ -55,7 +55,7 @@ one_screen law plan closed pass name commands end unasked lines listed truly =
     let near : Type 0 = IsNearlyFull plan closed pass.domain in
     let screen : List ℕ = string_bytes end.screen in
     let at : session_of plan end.pass
-    ≡ with_all (session_of plan pass) lines.told end.pass.met_full end.pass.met_nearly_full =
+    ≡ with_all (session_of plan pass) lines.told end.pass.met_full end.pass.met_nearly_full end.pass.met_no_room =
     lines.gains.list in
     let told : end.pass.told ≡ lines.told =
     ap (λ (s : SessionValue). s.pass.told) at ∙ ap (λ (before : List AnsweredCommand). before ++ lines.told) unasked in

@@ -2,12 +2,12 @@
 pub mod Passes
 pub mod Services
 pub mod Commands
+pub mod Rooms
+pub mod Domains
 pub mod Closed
 pub mod Restarts
 pub mod Histories
-pub mod Domains
 pub mod Answers
-pub mod Rooms
 -- what only helps contracts
 pub mod Endings
 pub mod PortMoves

@@ -11,13 +11,15 @@ use Rattle.domain_core.specs.declared.event.AnsweredCommand.{AnsweredCommand}
 
 -- whose it is, by the number of the user's domain in the plan and the user's number there; what the user asked and was
 -- answered, in the user's order; whether the journal of the domain was full when the user asked; whether it was nearly
--- full when the domain was to settle for the user; and for how many commands in all memory is reserved
+-- full when the domain was to settle for the user; whether there was no memory for what the user asked; and for how
+-- many commands in all memory is reserved
 pub record UserPassValue : Type 0 where
   pub domain : ℕ
   pub user : ℕ
   pub told : List AnsweredCommand
   pub met_full : Bool
   pub met_nearly_full : Bool
+  pub met_no_room : Bool
   pub reserved : ℕ
 
 -- the plan of its service, and the user's pass
@@ -35,12 +37,13 @@ fresh_pass domain user = record {
   told = [];
   met_full = false;
   met_nearly_full = false;
+  met_no_room = false;
   reserved = 0;
 }
 
 -- the pass as it was before its user asked anything
 abbrev pub pass_begun_anew : UserPassValue → UserPassValue
-pass_begun_anew pass = record pass { told = []; met_full = false; met_nearly_full = false }
+pass_begun_anew pass = record pass { told = []; met_full = false; met_nearly_full = false; met_no_room = false }
 
 -- the pass with memory reserved for this number of commands
 abbrev pub with_reserved : ℕ → UserPassValue → UserPassValue
@@ -70,11 +73,11 @@ call_of pass event = record { by = User pass.user; event = event }
 abbrev pub with_told : UserPassValue → Event → Reply → UserPassValue
 with_told pass event reply = record pass { told = pass.told ++ record { event = event; reply = reply } ∷ [] }
 
--- the pass after a refusal: it has met a full journal, if that is why
+-- the pass after a refusal: it has met a full journal, or has met no room, if that is why
 abbrev pub with_refusal : UserPassValue → Refusal → UserPassValue
 with_refusal pass JournalFull = record pass { met_full = true }
 with_refusal pass NoSuch = pass
-with_refusal pass NoMemory = pass
+with_refusal pass NoMemory = record pass { met_no_room = true }
 
 -- the pass of a user who has met a journal that is nearly full
 abbrev pub with_nearly_full : UserPassValue → UserPassValue

@@ -1,6 +1,10 @@
 -- A domain that is restarted, with the sessions of all its users.
-use Rattle.std.specs.Prelude.{ℕ, ◌≡◌, List, length, Some, slice_get}
+use Rattle.std.specs.Prelude.{ℕ, ◌≡◌, List, All, length, Some, slice_get}
 use Rattle.plan_rules.specs.Data.{DomainData}
+use Rattle.domain_core.specs.declared.journal.Entry.{Entry}
+use Rattle.domain_core.specs.Domain.{DomainValue}
+use Rattle.farm_service.specs.Closed.{IsListedIn}
+use Rattle.farm_service.specs.Domains.{IsFound}
 use Rattle.farm_service.specs.Passes.{SessionValue, pass_begun_anew}
 
 -- each session is that of the user of its place in a domain
@@ -23,3 +27,16 @@ AreAllOfOne plan sessions = (number : ℕ) × AreAllOf plan number sessions
 -- the session of a user who hasn't asked anything
 abbrev pub begun_anew : SessionValue → SessionValue
 begun_anew s = record s { pass = pass_begun_anew s.pass }
+
+-- so it is with each session
+abbrev pub AllListed : List Entry → List SessionValue → Type 0
+AllListed journal sessions = All (λ s. IsListedIn journal s.pass) sessions
+
+-- the sessions are those of all users of a domain, and it was found with a journal that has of each user exactly what
+-- is in the user's list
+pub record WereListed (plan : List DomainData) (sessions : List SessionValue) : Type 0 where
+  pub number : ℕ
+  pub domain : DomainValue
+  pub all : AreAllOf plan number sessions
+  pub found : IsFound plan number domain
+  pub listed : AllListed domain.journal sessions

@@ -1,8 +1,8 @@
-//! Whether each pass has met a full journal only if that of its domain is full, and one that is nearly full only if that of
-//! its domain is nearly full.
+//! Whether each pass has met a full journal only if that of its domain is full, one that is nearly full only if that of its
+//! domain is nearly full, and no room only if there was none.
 ghost use Rattle.std.specs.Prelude.{◌≡◌, ◌+◌, ◌<◌, ◌∷◌, [], length, true, IfSome};
 ghost use Rattle.domain_core.specs.Journal.{expanded};
-ghost use Rattle.farm_service.specs.Closed.{most_quantum, IsFull, IsNearlyFull, MetFullTruly, AllMetFullTruly};
+ghost use Rattle.farm_service.specs.Closed.{most_quantum, IsFull, IsNearlyFull, IsOutOfSpace, MetFullTruly, AllMetFullTruly};
 
 use crate::closed::ClosedDomain;
 use crate::pass::UserPass;
@@ -85,12 +85,27 @@ fn is_nearly_full(plan: &AcceptedPlan, closed: &[ClosedDomain], domain: u8) -> b
     }
 }
 
-// Whether a pass has met a journal that is full, or nearly full, only if that of its domain is.
+// Whether a pass's list, or its domain's journal, has as many entries as memory is reserved for in the list.
+fn is_out_of_space(closed: &[ClosedDomain], pass: &UserPass) -> bool
+    ensures { result ≡ true → IsOutOfSpace closed.now pass.now }
+{
+    if pass.reserved <= pass.commands().len() {
+        return true;
+    }
+    match closed.get(usize::from(pass.domain())) {
+        Some(closed) => pass.reserved <= closed.journal.len(),
+        None => false,
+    }
+}
+
+// Whether a pass has met a journal that is full, or nearly full, only if that of its domain is, and no room only if there is
+// none.
 fn met_full_truly(plan: &AcceptedPlan, closed: &[ClosedDomain], pass: &UserPass) -> bool
     ensures { result ≡ true → MetFullTruly plan.now closed.now pass.now }
 {
     (!pass.met_full() || is_full(plan, closed, pass.domain()))
         && (!pass.met_nearly_full() || is_nearly_full(plan, closed, pass.domain()))
+        && (!pass.met_no_room() || is_out_of_space(closed, pass))
 }
 
 // Whether each pass has.
@@ -105,8 +120,8 @@ fn all_met_full_truly(plan: &AcceptedPlan, closed: &[ClosedDomain], users: &[Use
     true
 }
 
-/// Sees that each pass has met a journal that is full, or nearly full, only if that of its domain is. If it isn't so, waits
-/// for ever.
+/// Sees that each pass has met a journal that is full, or nearly full, only if that of its domain is, and no room only if
+/// there is none. If it isn't so, waits for ever.
 pub(crate) fn await_limits<R: Wait>(
     rt: &R,
     plan: &AcceptedPlan,

@@ -2,7 +2,7 @@
 ghost use Rattle.std.specs.Prelude.{◌≡◌, ◌≤◌, ◌++◌, [], ◌∷◌, length, take, true, IfSome};
 ghost use Rattle.domain_core.specs.Journal.{expanded};
 ghost use Rattle.farm_service.specs.Commands.{commands_of};
-ghost use Rattle.farm_service.specs.Closed.{IsListed, AreListed};
+ghost use Rattle.farm_service.specs.Closed.{IsListedIn, IsListed, AreListed};
 
 use crate::closed::ClosedDomain;
 use crate::commands::command_from;
@@ -56,12 +56,19 @@ fn lists(journal: &Journal, user: u8, told: &[AnsweredCommand]) -> bool
     listed == told.len()
 }
 
+/// Whether a pass lists what a journal has of its user.
+pub(crate) fn is_listed_in(journal: &Journal, pass: &UserPass) -> bool
+    ensures { result ≡ true → IsListedIn journal.now.entries pass.now }
+{
+    lists(journal, pass.user(), pass.commands())
+}
+
 // Whether a pass lists what its domain's journal has of its user.
 fn is_listed(closed: &[ClosedDomain], pass: &UserPass) -> bool
     ensures { result ≡ true → IsListed closed.now pass.now }
 {
     match closed.get(usize::from(pass.domain())) {
-        Some(domain) => lists(&domain.journal, pass.user(), pass.commands()),
+        Some(domain) => is_listed_in(&domain.journal, pass),
         None => true,
     }
 }

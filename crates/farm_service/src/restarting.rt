@@ -3,11 +3,14 @@ ghost use Rattle.std.specs.Prelude.{◌≡◌, ◌↔◌, [], Err, IfOk, IfErr, 
 ghost use Rattle.domain_core.specs.declared.event.Refusal.TheVariants.{NoSuch};
 ghost use Rattle.domain_core.specs.Domain.{Fits, state_of};
 ghost use Rattle.domain_core.specs.PrivateFarm.{opening};
-ghost use Rattle.farm_service.specs.Restarts.{AreAllOf, AreAllOfOne, AreInOrder, begun_anew};
+ghost use Rattle.std.specs.Prelude.{true};
+ghost use Rattle.farm_service.specs.Restarts.{AllListed, AreAllOf, AreAllOfOne, AreInOrder, WereListed, begun_anew};
 
+use crate::lists::is_listed_in;
 use crate::service::{SeatedDomain, Service};
 use crate::session::Session;
-use domain_core::Refusal;
+use crate::waiting::block_forever;
+use domain_core::{Journal, Refusal};
 use domain_core::laws::fitting_stays;
 use plan_rules::AcceptedPlan;
 use std::sync::Wait;
@@ -51,6 +54,27 @@ fn domain_of_all(plan: &AcceptedPlan, sessions: &[Session<'_>]) -> Option<u8>
     }
 }
 
+// Whether each session's list is what a journal has of its user.
+fn all_listed(journal: &Journal, sessions: &[Session<'_>]) -> bool
+    ensures { result ≡ true → AllListed journal.now.entries sessions.now }
+{
+    for session in sessions {
+        if !is_listed_in(journal, session.pass()) {
+            return false;
+        }
+    }
+    true
+}
+
+// Sees that each session's list is what a journal has of its user. If it isn't so, waits for ever.
+fn await_all_listed<R: Wait>(rt: &R, journal: &Journal, sessions: &[Session<'_>])
+    ensures { AllListed journal.now.entries sessions.now }
+{
+    if !all_listed(journal, sessions) {
+        block_forever(rt)
+    }
+}
+
 // Makes a domain as it was opened, and the lists of all its users empty.
 // Six clauses: whose domain and sessions these are, and what becomes of the one and of the others.
 fn begin_anew(
@@ -77,13 +101,15 @@ fn begin_anew(
 impl Service {
     /// Makes a domain as it was opened, but that the change counts of its words go on, and the lists of all its users
     /// empty, in one hold of its lock. The sessions are those of all users of the domain at this service, in their order.
-    /// What [`Service::close`] says then holds of what came since.
+    /// What [`Service::close`] says then holds of what came since. If a list isn't what the journal has of its user, the call waits
+    /// for ever. No run comes to it whose passes are those of the service's own opening.
     ///
     /// # Errors
     ///
     /// `NoSuch` if the sessions aren't those of all users of one domain of the plan. Nothing has changed then.
     pub fn restart<R: Wait>(&self, rt: &R, sessions: &mut [Session<'_>]) -> Result<(), Refusal>
         ensures done { IfOk result (λ _. sessions.new ≡ map begun_anew sessions.old) }
+        ensures listed { IfOk result (λ _. WereListed self.now.plan sessions.old) }
         ensures no_such { (result ≡ Err NoSuch) ↔ ¬ AreAllOfOne self.now.plan sessions.old }
         ensures err { IfErr result (λ refusal. (refusal ≡ NoSuch) × (sessions.new ≡ sessions.old)) }
     {
@@ -93,6 +119,7 @@ impl Service {
         let Some(mut seated) = self.hold_found(rt, domain) else {
             return Err(Refusal::NoSuch);
         };
+        await_all_listed(rt, seated.journal(), sessions);
         begin_anew(&mut seated, self.plan(), domain, sessions);
         self.note_anew(domain);
         drop(seated);

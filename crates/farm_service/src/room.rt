@@ -1,8 +1,8 @@
 //! How much memory a domain may take for its journal and for the lists of its users.
-ghost use Rattle.std.specs.Prelude.{◌≡◌, ◌==◌, ◌-◌, ◌^◌, not};
-ghost use Rattle.farm_service.specs.Rooms.{reserved_entries};
+ghost use Rattle.std.specs.Prelude.{◌≡◌, ◌↔◌, ◌==◌, ◌-◌, ◌^◌, IsTrue, not};
+ghost use Rattle.farm_service.specs.Rooms.{IsUsedUp, reserved_entries};
 
-use domain_core::{ENTRY_BYTES, Journal};
+use domain_core::ENTRY_BYTES;
 
 /// How much memory a domain may take for its journal and for the lists of its users, in bytes.
 #[derive(Clone, Copy)]
@@ -50,8 +50,10 @@ impl Room {
         }
     }
 
-    /// Whether nodes and packets rest. A quarter of the room is kept for the commands of users.
-    pub(crate) fn is_used_up(self, journal: &Journal) -> bool {
-        journal.bytes() >= self.bytes - self.bytes / 4
+    /// Whether nodes and packets rest if that many bytes of the room are taken. A quarter is kept for the commands of users.
+    pub fn is_used_up(self, taken: u64) -> bool
+        ensures { IsTrue result ↔ IsUsedUp self taken }
+    {
+        taken >= self.bytes - self.bytes / 4
     }
 }

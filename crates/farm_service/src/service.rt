@@ -5,7 +5,7 @@ ghost use Rattle.crossbar.specs.Word.{IsAtLeastAsNew};
 ghost use Rattle.domain_core.specs.declared.domain.Committed.TheVariants.{Stale};
 ghost use Rattle.domain_core.specs.declared.event.Refusal.TheVariants.{NoSuch, JournalFull};
 ghost use Rattle.domain_core.specs.declared.event.Refusal.TheVariants as refusal_of;
-ghost use Rattle.domain_core.specs.Domain.{Fits, UnlessNoMemory, IsOutOfRoom};
+ghost use Rattle.domain_core.specs.Domain.{Fits, UnlessNoMemory, IsCalled, IsOutOfRoom};
 ghost use Rattle.domain_core.specs.Ticket.{fresh_ticket};
 ghost use Rattle.whole_farm.specs.Places.{places_of};
 ghost use Rattle.plan_rules.specs.Part.{part_of};
@@ -30,6 +30,7 @@ use crate::lists::await_listed;
 use crate::locking::{await_fitting, take};
 use crate::opening::{Opened, lock_each};
 use crate::pass::UserPass;
+use crate::resting::RestNotes;
 use crate::room::Room;
 use crate::waiting::block_forever;
 use crossbar::Word;
@@ -60,10 +61,8 @@ pub struct Service {
     tokens: TokenQueue,
     stopped: AtomicBool,
     room: Room,
-    // The domains whose nodes and packets rest until the domain is restarted, since there was no memory.
-    halted: Vec<AtomicBool>,
-    // The domains that were noted to rest.
-    noted: Vec<AtomicBool>,
+    // What is noted of the rest of each domain.
+    rest_notes: Vec<RestNotes>,
     // Which bursts are to be done next. Nobody relies on it: it spares bursts that would be stale, or too many.
     schedule: Schedule,
 }
@@ -78,8 +77,7 @@ impl Drop for Service {
             tokens: _,
             stopped: _,
             room: _,
-            halted: _,
-            noted: _,
+            rest_notes: _,
             schedule: _,
         } = self;
     }
@@ -92,7 +90,7 @@ impl Model for Service {
 
     ghost Value = { ServiceValue };
 
-    ghost view = { λ s. record { plan = s.plan; queue = s.tokens; table = table_of s.table } };
+    ghost view = { λ s. record { plan = s.plan; queue = s.tokens; table = table_of s.table; room = s.room } };
 
     ghost invariant = { λ s. length s.domains.items ≡ length s.plan };
 }
@@ -107,8 +105,10 @@ fn ask_planned(
     event: Event,
 ) -> Result<Reply, Refusal>
     requires { Fits plan.now number domain.old }
+    ensures called { IsCalled (record { by = by; event = event }) result domain.old domain.new }
     ensures answer { UnlessNoMemory result (IsAnswerIn plan.now number (record { by = by; event = event }) result) }
     ensures memory { result ≡ Err refusal_of.NoMemory → IsOutOfRoom domain.old }
+    ensures reserved { domain.new.reserved ≡ domain.old.reserved }
 {
     // A domain is what its journal says.
     domain.meant_law();
@@ -119,6 +119,7 @@ fn ask_planned(
 
 // Asks a domain that is the plan's of this number. If it refuses since memory ran out, and memory is reserved in it for
 // fewer than `reserved` entries, waits for ever. No run comes to that.
+// Six clauses: what is asked, what is answered, what it does to the domain, and when memory is wanted.
 fn ask_reserved<R: Wait>(
     rt: &R,
     alloc: Global,
@@ -131,7 +132,9 @@ fn ask_reserved<R: Wait>(
 ) -> Result<Reply, Refusal>
     requires found { IsFound plan.now number domain.old }
     ensures answer { UnlessNoMemory result (IsAnswerIn plan.now number (record { by = by; event = event }) result) }
-    ensures memory { result ≡ Err refusal_of.NoMemory → IsJournalOutOfRoom plan.now number reserved }
+    ensures called { IsCalled (record { by = by; event = event }) result domain.old domain.new }
+    ensures own { result ≡ Err refusal_of.NoMemory → (reserved ≤ domain.old.reserved) × IsOutOfRoom domain.old }
+    ensures reserved { domain.new.reserved ≡ domain.old.reserved }
 {
     let there = domain.reserved_entries();
     let told = ask_planned(alloc, domain, plan, number, by, event);
@@ -169,18 +172,9 @@ fn open_parts<R: Wait>(
     Ok((locks, schedule, tokens, passes))
 }
 
-// `count` flags, none of them set.
-fn none_of(alloc: Global, count: usize) -> Result<Vec<AtomicBool>, NoMemory> {
-    let mut flags = Vec::with_capacity(alloc, count)?;
-    for _flag in 0..count {
-        flags.push(AtomicBool::new(false))?;
-    }
-    Ok(flags)
-}
-
 impl Service {
     /// A service on the domains of a plan, which are put under locks, with the passes of its users.
-    // Eight clauses: two of what is handed in, one for each thing that is opened, and when there is none.
+    // Nine clauses: two of what is handed in, one for each thing that is opened, and when there is none.
     pub(crate) fn of<R: Wait>(
         rt: &R,
         alloc: Global,
@@ -191,6 +185,7 @@ impl Service {
         requires workers { (1 ≤ workers) × (workers ≤ 8) }
         requires count { vec_len histories.domains ≡ length histories.plan }
         ensures plan { IfOk result (λ o. o.service.plan ≡ histories.plan) }
+        ensures room { IfOk result (λ o. o.service.room ≡ histories.room) }
         ensures users { IfOk result (λ o. o.users ≡ users) }
         ensures workers { IfOk result (λ o. length o.passes.items ≡ workers) }
         ensures passes { IfOk result (λ o. AreItsPasses histories.plan o.service.queue o.passes.items) }
@@ -204,8 +199,7 @@ impl Service {
             operator,
             room,
         } = histories;
-        let halted = none_of(alloc, domains.len())?;
-        let noted = none_of(alloc, domains.len())?;
+        let rest_notes = RestNotes::of_each(alloc, domains.len())?;
         let (domains, schedule, tokens, passes) = open_parts(rt, alloc, &plan, domains, workers)?;
         Ok(Opened {
             service: Service {
@@ -215,8 +209,7 @@ impl Service {
                 tokens,
                 stopped: AtomicBool::new(false),
                 room,
-                halted,
-                noted,
+                rest_notes,
                 schedule,
             },
             passes,
@@ -239,46 +232,45 @@ impl Service {
     }
 
     /// How much memory each domain may take for its journal and for the lists of its users.
-    pub fn room(&self) -> Room {
+    pub fn room(&self) -> Room
+        ensures { result ≡ self.now.room }
+    {
         self.room
     }
 
-    /// Lets the nodes and packets of a domain rest until the domain is restarted, as if its room were used up.
+    /// Lets the nodes and packets of a domain rest until it is restarted, since memory ran out.
     pub fn halt(&self, domain: u8) {
-        self.note_halted(domain, true);
-    }
-
-    // Notes whether the nodes and packets of a domain rest no matter what room it has.
-    pub(crate) fn note_halted(&self, domain: u8, is_halted: bool) {
-        if let Some(flag) = self.halted.get(usize::from(domain)) {
-            flag.store(is_halted, Ordering::SeqCst);
+        if let Some(notes) = self.rest_notes(domain) {
+            notes.note_no_memory();
         }
     }
 
-    // Notes that a domain rests; whether that wasn't noted before.
+    /// Lets the nodes and packets of a domain rest until it is restarted, since its records have too little room.
+    pub fn halt_for_records(&self, domain: u8) {
+        if let Some(notes) = self.rest_notes(domain) {
+            notes.note_full_records();
+        }
+    }
+
+    // What is noted of the rest of a domain, none if there is no such domain.
+    pub(crate) fn rest_notes(&self, domain: u8) -> Option<&RestNotes> {
+        self.rest_notes.get(usize::from(domain))
+    }
+
+    // Notes that it was shown that a domain rests; whether it wasn't before.
     pub(crate) fn note_rest(&self, domain: u8) -> bool {
-        match self.noted.get(usize::from(domain)) {
-            Some(flag) => !flag.swap(true, Ordering::SeqCst),
+        match self.rest_notes(domain) {
+            Some(notes) => notes.note_shown(),
             None => false,
         }
     }
 
     // Notes that a domain was restarted.
     pub(crate) fn note_anew(&self, domain: u8) {
-        self.note_halted(domain, false);
         self.schedule.allowance().note(domain, 0);
-        if let Some(flag) = self.noted.get(usize::from(domain)) {
-            flag.store(false, Ordering::SeqCst);
+        if let Some(notes) = self.rest_notes(domain) {
+            notes.note_anew();
         }
-    }
-
-    // Whether nodes and packets of a domain rest: its room is used up, or there was no memory.
-    pub(crate) fn has_no_room(&self, number: u8, domain: &SeatedDomain) -> bool {
-        let is_halted = match self.halted.get(usize::from(number)) {
-            Some(flag) => flag.load(Ordering::SeqCst),
-            None => false,
-        };
-        is_halted || self.room.is_used_up(domain.journal())
     }
 
     // Whether workers are to end.
@@ -451,11 +443,13 @@ impl Service {
     /// Ends the service. Every merge of the journals is a run of the whole farm of the plan, which answers the
     /// stored replies and ends as the words say; each user's commands in the journal of the user's domain, with
     /// their replies, are the list of the pass that was handed in for the user, in its order; a pass has met a
-    /// full journal only if its domain's journal has as many events as its limit; users asked for all commands,
+    /// full journal only if its domain's journal has as many events as its limit, and no room only if its list or the journal has
+    /// as many entries as memory is reserved for; users asked for all commands,
     /// and the farm itself for nothing but Steps and Moves; and the tokens are the plan's nodes, each once.
     ///
-    /// If a journal has other commands of a user than the user's pass lists, or isn't full, or nearly full, though the pass
-    /// notes that it was, or has a command of the farm itself or a Step or a Move of a user, the call waits for ever. No run
+    /// If a journal has other commands of a user than the user's pass lists, or isn't full, or nearly full, or has
+    /// room, though the pass notes the contrary, or has a command of the farm itself or a Step or a Move of a user, the call
+    /// waits for ever. No run
     /// comes to it whose passes are those of this service's opening, unless a history that was done again has such a call.
     ///
     /// # Errors
@@ -492,8 +486,7 @@ impl Service {
             tokens,
             stopped: _,
             room: _,
-            halted: _,
-            noted: _,
+            rest_notes: _,
             schedule: _,
         } = self;
         let ClosingMemory {

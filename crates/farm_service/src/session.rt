@@ -98,7 +98,10 @@ impl Session<'_> {
         ensures list { Gains self.old event result self.new }
     {
         let pass = &mut self.pass;
-        pass.told.reserve(1)?;
+        if pass.told.reserve(1).is_err() {
+            pass.note_refusal(Refusal::NoMemory);
+            return Err(Refusal::NoMemory);
+        }
         let (domain, by) = (pass.domain, By::User(pass.user));
         let answer = self
             .service

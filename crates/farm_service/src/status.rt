@@ -1,10 +1,14 @@
 //! How it is with a domain.
-ghost use Rattle.std.specs.Prelude.{◌≡◌, ◌≤◌, ◌↔◌, length, Err, IfOk, IfErr, IfSome, slice_get};
+ghost use Rattle.std.specs.Prelude.{◌≡◌, ◌≤◌, ◌↔◌, length, is_some, Err, Some, IfOk, IfErr, IfSome, slice_get, true};
 ghost use Rattle.domain_core.specs.declared.event.Refusal.TheVariants.{NoSuch};
 ghost use Rattle.domain_core.specs.Domain.{DomainValue as SpecDomain};
 ghost use Rattle.plan_rules.specs.Part.{part_of};
 ghost use Rattle.farm_service.specs.Domains.{IsFound, IsStatusOf};
+ghost use Rattle.farm_service.specs.Rooms.{IsRoomStatusOf, IsUsedUp, least_bytes};
+ghost use Rattle.farm_service.specs.declared.resting.RestCause.TheVariants.{RoomUsedUp as SpecRoomUsedUp};
 
+use crate::resting::RestCause;
+use crate::room::Room;
 use crate::service::{SeatedDomain, Service};
 use domain_core::Refusal;
 use std::sync::Wait;
@@ -27,13 +31,17 @@ pub struct DomainStatus {
 pub struct RoomStatus {
     /// How many bytes of it are taken.
     pub bytes: u64,
-    /// Whether nodes and packets of the domain rest until it is restarted: its room is used up, or it was halted.
-    pub rests: bool,
+    /// How many bytes there are.
+    pub room_bytes: u64,
+    /// Why nodes and packets of the domain rest, none if they don't. If there are several causes, it is the first of them in
+    /// the order of [`RestCause`].
+    pub rests: Option<RestCause>,
 }
 
 // How it is with a domain, which stays.
-fn status_of(domain: &mut SeatedDomain, room: RoomStatus) -> DomainStatus
-    ensures status { IsStatusOf domain.old result }
+fn status_of(domain: &mut SeatedDomain, bound: Room, room: RoomStatus) -> DomainStatus
+    requires { IsRoomStatusOf bound domain.old room }
+    ensures status { IsStatusOf bound domain.old result }
     ensures unchanged { domain.new ≡ domain.old }
 {
     DomainStatus {
@@ -45,12 +53,36 @@ fn status_of(domain: &mut SeatedDomain, room: RoomStatus) -> DomainStatus
 }
 
 impl Service {
-    // How it is with the room of a domain that is held.
-    fn room_taken(&self, number: u8, domain: &SeatedDomain) -> RoomStatus {
-        RoomStatus {
-            bytes: domain.journal().bytes(),
-            rests: self.has_no_room(number, domain),
+    // Why a domain rests, if that many bytes of its room are taken.
+    fn rest_cause(&self, number: u8, taken: u64) -> Option<RestCause>
+        ensures { (result ≡ Some SpecRoomUsedUp) ↔ IsUsedUp self.now.room taken }
+    {
+        if self.room().is_used_up(taken) {
+            return Some(RestCause::RoomUsedUp);
         }
+        match self.rest_notes(number) {
+            Some(notes) => notes.cause(),
+            None => None,
+        }
+    }
+
+    // How it is with the room of a domain that is held.
+    pub(crate) fn room_taken(&self, number: u8, domain: &SeatedDomain) -> RoomStatus
+        ensures { IsRoomStatusOf self.now.room domain.now result }
+    {
+        let bytes = domain.journal().bytes();
+        RoomStatus {
+            bytes,
+            room_bytes: self.room().bytes(),
+            rests: self.rest_cause(number, bytes),
+        }
+    }
+
+    // Whether nodes and packets of a domain rest: its room is used up, or it was halted.
+    pub(crate) fn has_no_room(&self, number: u8, domain: &SeatedDomain) -> bool
+        ensures { IsUsedUp self.now.room (least_bytes domain.now) → result ≡ true }
+    {
+        self.room_taken(number, domain).rests.is_some()
     }
 
     /// How it is with the room of a domain, under its lock.
@@ -59,13 +91,14 @@ impl Service {
     ///
     /// `NoSuch` if the plan has no such domain.
     pub fn room_status<R: Wait>(&self, rt: &R, domain: u8) -> Result<RoomStatus, Refusal>
+        ensures status { IfOk result (λ status. (d : SpecDomain) × IsFound self.now.plan domain d × IsRoomStatusOf self.now.room d status) }
         ensures no_such { (result ≡ Err NoSuch) ↔ (length self.now.plan ≤ domain) }
         ensures err { IfErr result (λ refusal. refusal ≡ NoSuch) }
     {
-        match self.hold(rt, domain) {
-            Some(seated) => Ok(self.room_taken(domain, &seated)),
-            None => Err(Refusal::NoSuch),
-        }
+        let Some(seated) = self.hold_found(rt, domain) else {
+            return Err(Refusal::NoSuch);
+        };
+        Ok(self.room_taken(domain, &seated))
     }
 
     /// How it is with a domain, under its lock.
@@ -75,7 +108,7 @@ impl Service {
     /// `NoSuch` if the plan has no such domain.
     // Five clauses: what is said of the domain, of its numbers, and when it is refused.
     pub fn status<R: Wait>(&self, rt: &R, domain: u8) -> Result<DomainStatus, Refusal>
-        ensures status { IfOk result (λ status. (d : SpecDomain) × IsFound self.now.plan domain d × IsStatusOf d status) }
+        ensures status { IfOk result (λ status. (d : SpecDomain) × IsFound self.now.plan domain d × IsStatusOf self.now.room d status) }
         ensures limit { IfOk result (λ status. IfSome (slice_get self.now.plan domain) (λ d. status.limit ≡ (part_of d).limit)) }
         ensures within { IfOk result (λ status. status.recorded ≤ status.limit) }
         ensures no_such { (result ≡ Err NoSuch) ↔ (length self.now.plan ≤ domain) }
@@ -84,7 +117,7 @@ impl Service {
         match self.hold_found(rt, domain) {
             Some(mut seated) => {
                 let room = self.room_taken(domain, &seated);
-                Ok(status_of(&mut seated, room))
+                Ok(status_of(&mut seated, self.room(), room))
             }
             None => Err(Refusal::NoSuch),
         }

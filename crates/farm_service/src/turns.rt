@@ -1,11 +1,13 @@
 //! Turns of workers, and rounds of `settle`.
 
-ghost use Rattle.std.specs.Prelude.{◌≡◌, ◌≢◌, ◌<◌, ◌≤◌, Err, length};
+ghost use Rattle.std.specs.Prelude.{◌≡◌, ◌≢◌, ◌<◌, ◌≤◌, Ok, Err, length};
 ghost use Rattle.domain_core.specs.declared.event.Refusal.TheVariants.{NoSuch};
+ghost use Rattle.farm_service.specs.Rooms.{IsUsedUp, least_bytes};
+ghost use Rattle.farm_service.specs.declared.turns.Begun.TheVariants.{CheckedOut};
 
 use crate::halves::{TurnOutcome, Turned, begin_turn, commit_slot, end_turn};
 use crate::moves::{MovesOutcome, end_round};
-use crate::service::Service;
+use crate::service::{SeatedDomain, Service};
 use crate::session::Settled;
 use crate::worker::Gate;
 use domain_core::{Committed, Refusal, Ticket};
@@ -27,7 +29,7 @@ fn burst(slot: &mut Option<Ticket>, steps: u64) -> u64 {
 
 // How a turn begins.
 #[derive(Clone, Copy, PartialEq, Eq)]
-enum Begun {
+pub(crate) enum Begun {
     // The node was copied.
     CheckedOut,
     // The node has no Step to do.
@@ -85,7 +87,27 @@ impl TurnDone {
 }
 
 impl Service {
-    // Begins a turn in one hold of the domain's lock. There is none if the domain has no room.
+    // Begins a turn of a domain that is held. There is none if the domain has no room.
+    fn begin_held(
+        &self,
+        alloc: Global,
+        domain: &SeatedDomain,
+        token: Token,
+        slot: &mut Option<Ticket>,
+    ) -> Result<Begun, Refusal>
+        ensures room { result ≡ Ok CheckedOut → ¬ IsUsedUp self.now.room (least_bytes domain.now) }
+        ensures no_such { result ≢ Err NoSuch }
+    {
+        if self.has_no_room(token.domain, domain) {
+            Ok(Begun::NoRoom)
+        } else if begin_turn(alloc, domain, token.domain, token.node, slot)? {
+            Ok(Begun::CheckedOut)
+        } else {
+            Ok(Begun::NoStep)
+        }
+    }
+
+    // Begins a turn in one hold of the domain's lock.
     fn begin<R: Wait>(
         &self,
         rt: &R,
@@ -96,11 +118,7 @@ impl Service {
         ensures there { token.domain < length self.now.plan → result ≢ Err NoSuch }
     {
         match self.hold(rt, token.domain) {
-            Some(seated) if self.has_no_room(token.domain, &seated) => Ok(Begun::NoRoom),
-            Some(seated) if begin_turn(alloc, &seated, token.domain, token.node, slot)? => {
-                Ok(Begun::CheckedOut)
-            }
-            Some(_) => Ok(Begun::NoStep),
+            Some(seated) => self.begin_held(alloc, &seated, token, slot),
             None => Err(Refusal::NoSuch),
         }
     }

@@ -47,17 +47,27 @@ asked_more next before (u ∷ told) other_told given same = (
 
 -- ---- what a session gains
 
--- the session with this list, and whether its user has met a journal that is full, or nearly full
-abbrev pub with_list : SessionValue → List AnsweredCommand → Bool → Bool → SessionValue
-with_list s list full nearly_full =
-    record s { pass = record s.pass { told = list; met_full = full; met_nearly_full = nearly_full } }
+-- the session with this list, and whether its user has met a journal that is full, or nearly full, or no room
+abbrev pub with_list : SessionValue → List AnsweredCommand → Bool → Bool → Bool → SessionValue
+with_list s list full nearly_full no_room =
+    record s {
+      pass = record s.pass {
+        told = list;
+        met_full = full;
+        met_nearly_full = nearly_full;
+        met_no_room = no_room;
+      };
+    }
 
 -- the same session by equal notes
-pub same_notes : (s : SessionValue) (told : List AnsweredCommand) (full other_full near other_near : Bool)
+pub same_notes : (s : SessionValue) (told : List AnsweredCommand)
+    (full other_full near other_near none other_none : Bool)
     → full ≡ other_full
-    → near ≡ other_near → with_all s told full near ≡ with_all s told other_full other_near
-same_notes s told full other_full near other_near same same_near =
-    ap (λ (b : Bool). with_all s told b near) same ∙ ap (λ (b : Bool). with_all s told other_full b) same_near
+    → near ≡ other_near → none ≡ other_none
+    → with_all s told full near none ≡ with_all s told other_full other_near other_none
+same_notes s told full other_full near other_near none other_none same same_near same_none =
+    ap (λ (b : Bool). with_all s told b near none) same ∙ ap (λ (b : Bool). with_all s told other_full b none) same_near
+    ∙ ap (λ (b : Bool). with_all s told other_full other_near b) same_none
 
 -- one event more
 gained_more : (s t session : SessionValue) (told : List AnsweredCommand) (e : Event) (r : Reply)
@@ -66,11 +76,14 @@ gained_more s t session told e r so_far gains =
     let same : session.pass.met_full ≡ t.pass.met_full = ap (λ (v : SessionValue). v.pass.met_full) gains in
     let same_nearly : session.pass.met_nearly_full ≡ t.pass.met_nearly_full =
     ap (λ (v : SessionValue). v.pass.met_nearly_full) gains in
+    let same_none : session.pass.met_no_room ≡ t.pass.met_no_room =
+    ap (λ (v : SessionValue). v.pass.met_no_room) gains in
     let told_all : List AnsweredCommand = told ++ told_of e r ∷ [] in record {
       list = gains ∙ ap (λ (v : SessionValue). record v { pass = with_told v.pass e r }) so_far.list
-          ∙ ap (λ (list : List AnsweredCommand). with_list s list t.pass.met_full t.pass.met_nearly_full)
+          ∙ ap (λ (list : List AnsweredCommand).
+          with_list s list t.pass.met_full t.pass.met_nearly_full t.pass.met_no_room)
           (append_assoc s.pass.told told (told_of e r ∷ []))
-          ∙ same_notes s told_all _ _ _ _ (sym same) (sym same_nearly);
+          ∙ same_notes s told_all _ _ _ _ _ _ (sym same) (sym same_nearly) (sym same_none);
       full = λ met. same ∙ so_far.full met;
       nearly_full = λ met. same_nearly ∙ so_far.nearly_full met;
     }
@@ -88,13 +101,23 @@ gained_still : (s t session : SessionValue) (told : List AnsweredCommand) (e : E
 gained_still s t session told e NoSuch so_far same =
     subst (λ (v : SessionValue). HasGained s v told) (sym same) so_far
 gained_still s t session told e NoMemory so_far same =
-    subst (λ (v : SessionValue). HasGained s v told) (sym same) so_far
+    let met : session.pass.met_no_room ≡ true = ap (λ (v : SessionValue). v.pass.met_no_room) same in
+    let same_full : session.pass.met_full ≡ t.pass.met_full = ap (λ (v : SessionValue). v.pass.met_full) same in
+    let same_nearly : session.pass.met_nearly_full ≡ t.pass.met_nearly_full =
+    ap (λ (v : SessionValue). v.pass.met_nearly_full) same in record {
+      list = same ∙ ap (λ (v : SessionValue). record v { pass = record v.pass { met_no_room = true } }) so_far.list
+          ∙ same_notes s told _ _ _ _ _ _ (sym same_full) (sym same_nearly) (sym met);
+      full = λ before. same_full ∙ so_far.full before;
+      nearly_full = λ before. same_nearly ∙ so_far.nearly_full before;
+    }
 gained_still s t session told e JournalFull so_far same =
     let met : HasMetFull session = now_met t session e JournalFull same refl in
     let same_nearly : session.pass.met_nearly_full ≡ t.pass.met_nearly_full =
-    ap (λ (v : SessionValue). v.pass.met_nearly_full) same in record {
+    ap (λ (v : SessionValue). v.pass.met_nearly_full) same in
+    let same_none : session.pass.met_no_room ≡ t.pass.met_no_room =
+    ap (λ (v : SessionValue). v.pass.met_no_room) same in record {
       list = same ∙ ap (λ (v : SessionValue). record v { pass = record v.pass { met_full = true } }) so_far.list
-          ∙ same_notes s told _ _ _ _ (sym met) (sym same_nearly);
+          ∙ same_notes s told _ _ _ _ _ _ (sym met) (sym same_nearly) (sym same_none);
       full = λ before. met;
       nearly_full = λ before. same_nearly ∙ so_far.nearly_full before;
     }

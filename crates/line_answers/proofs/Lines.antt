@@ -222,8 +222,11 @@ joined : (s t session : SessionValue) (xs ys : List AnsweredCommand) → HasGain
     → HasGained s session (xs ++ ys)
 joined s t session xs ys first second = record {
   list = second.list
-      ∙ ap (λ (v : SessionValue). with_all v ys session.pass.met_full session.pass.met_nearly_full) first.list
-      ∙ ap (λ (list : List AnsweredCommand). with_list s list session.pass.met_full session.pass.met_nearly_full)
+      ∙ ap (λ (v : SessionValue).
+      with_all v ys session.pass.met_full session.pass.met_nearly_full session.pass.met_no_room)
+      first.list
+      ∙ ap (λ (list : List AnsweredCommand).
+      with_list s list session.pass.met_full session.pass.met_nearly_full session.pass.met_no_room)
       (append_assoc s.pass.told xs ys);
   full = λ met. second.full (first.full met);
   nearly_full = λ met. second.nearly_full (first.nearly_full met);
@@ -301,9 +304,11 @@ now_nearly_full : (s t session : SessionValue) (told : List AnsweredCommand) →
     → session ≡ record t { pass = with_nearly_full t.pass } → HasGained s session told
 now_nearly_full s t session told so_far is =
     let met : HasMetNearlyFull session = ap (λ (v : SessionValue). v.pass.met_nearly_full) is in
-    let same : session.pass.met_full ≡ t.pass.met_full = ap (λ (v : SessionValue). v.pass.met_full) is in record {
+    let same : session.pass.met_full ≡ t.pass.met_full = ap (λ (v : SessionValue). v.pass.met_full) is in
+    let same_none : session.pass.met_no_room ≡ t.pass.met_no_room =
+    ap (λ (v : SessionValue). v.pass.met_no_room) is in record {
       list = is ∙ ap (λ (v : SessionValue). record v { pass = with_nearly_full v.pass }) so_far.list
-          ∙ same_notes s told _ _ _ _ (sym same) (sym met);
+          ∙ same_notes s told _ _ _ _ _ _ (sym same) (sym met) (sym same_none);
       full = λ before. same ∙ so_far.full before;
       nearly_full = λ before. met;
     }
@@ -433,12 +438,13 @@ answered name c s t outcome asks screen more fine is = record {
 
 end_for : {A : Type 0} (P near : Type 0) (c : Command) (told : List AnsweredCommand) (s : SessionValue)
     (before : List AnsweredCommand)
-    (full nearly_full : Bool) (outcome : Result A Refusal)
-    → LineHasEnded P near (with_all s before full nearly_full) c told outcome → LineHasEnded P near s c told outcome
-end_for P near c told s before full nearly_full (Ok a) over = over
-end_for P near c told s before full nearly_full (Err NoSuch) over = over
-end_for P near c told s before full nearly_full (Err JournalFull) over = over
-end_for P near c told s before full nearly_full (Err NoMemory) over = over
+    (full nearly_full no_room : Bool) (outcome : Result A Refusal)
+    → LineHasEnded P near (with_all s before full nearly_full no_room) c told outcome
+    → LineHasEnded P near s c told outcome
+end_for P near c told s before full nearly_full no_room (Ok a) over = over
+end_for P near c told s before full nearly_full no_room (Err NoSuch) over = over
+end_for P near c told s before full nearly_full no_room (Err JournalFull) over = over
+end_for P near c told s before full nearly_full no_room (Err NoMemory) over = over
 
 end_if : {A P near Q later : Type 0} → (P → Q) → (near → later)
     → (c : Command) (told : List AnsweredCommand) (s : SessionValue)
@@ -459,15 +465,15 @@ end_if so also c told s (Err NoMemory) over = elim over [
 ]
 
 -- a line is answered for each session of its user
-line_for : (P near : Type 0) (s : SessionValue) (before : List AnsweredCommand) (full nearly_full : Bool)
+line_for : (P near : Type 0) (s : SessionValue) (before : List AnsweredCommand) (full nearly_full no_room : Bool)
     (name : List ℕ)
     (c : Command) (told : List AnsweredCommand) (text : List ℕ)
-    → IsAnsweredLine P near (with_all s before full nearly_full) name c told text
+    → IsAnsweredLine P near (with_all s before full nearly_full no_room) name c told text
     → IsAnsweredLine P near s name c told text
-line_for P near s before full nearly_full name c told text line = record {
+line_for P near s before full nearly_full no_room name c told text line = record {
   result = line.result;
   asked = line.asked;
-  ended = end_for P near c told s before full nearly_full line.result line.ended;
+  ended = end_for P near c told s before full nearly_full no_room line.result line.ended;
   is_text = line.is_text;
 }
 
@@ -547,7 +553,7 @@ one_shown name commands c s t session screen more so_far line =
     let P : Type 0 = HasMetFull session in
     let near : Type 0 = HasMetNearlyFull session in
     let is : IsAnsweredLine P near s name c line.told line.line =
-    line_for P near s so_far.told t.pass.met_full t.pass.met_nearly_full name c line.told line.line
+    line_for P near s so_far.told t.pass.met_full t.pass.met_nearly_full t.pass.met_no_room name c line.told line.line
     (subst (λ (v : SessionValue). IsAnsweredLine P near v name c line.told line.line) so_far.gains.list line.is_line) in
     record {
       told = so_far.told ++ line.told;

@@ -18,17 +18,22 @@ HasMetFull s = s.pass.met_full ≡ true
 abbrev pub HasMetNearlyFull : SessionValue → Type 0
 HasMetNearlyFull s = s.pass.met_nearly_full ≡ true
 
--- the session whose list gained these, and whether its user has met a journal that is full, or nearly full
-abbrev pub with_all : SessionValue → List AnsweredCommand → Bool → Bool → SessionValue
-with_all s told full nearly_full =
+-- the session whose list gained these, and whether its user has met a journal that is full, or nearly full, or no room
+abbrev pub with_all : SessionValue → List AnsweredCommand → Bool → Bool → Bool → SessionValue
+with_all s told full nearly_full no_room =
     record s {
-      pass = record s.pass { told = s.pass.told ++ told; met_full = full; met_nearly_full = nearly_full };
+      pass = record s.pass {
+        told = s.pass.told ++ told;
+        met_full = full;
+        met_nearly_full = nearly_full;
+        met_no_room = no_room;
+      };
     }
 
 -- the session of the same user, whose list gained these; a user who has met a journal that is full, or nearly full, has
 -- met it from then on
 pub record HasGained (s t : SessionValue) (told : List AnsweredCommand) : Type 0 where
-  pub list : t ≡ with_all s told t.pass.met_full t.pass.met_nearly_full
+  pub list : t ≡ with_all s told t.pass.met_full t.pass.met_nearly_full t.pass.met_no_room
   pub full : HasMetFull s → HasMetFull t
   pub nearly_full : HasMetNearlyFull s → HasMetNearlyFull t
 

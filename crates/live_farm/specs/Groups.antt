@@ -61,7 +61,7 @@ BeginsIf false before after = AllStay before after
 -- answered commands, or more
 abbrev pub IsStatusHere : UserGroup → DomainStatus → Type 0
 IsStatusHere group status =
-    (d : DomainValue) × IsFound group.service.now.plan group.domain d × IsStatusOf d status
+    (d : DomainValue) × IsFound group.service.now.plan group.domain d × IsStatusOf group.service.now.room d status
     × (commands_asked group ≤ status.recorded)
 
 -- a user is answered whether the user's domain is at rest, as its status says

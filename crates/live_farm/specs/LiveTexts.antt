@@ -1,5 +1,5 @@
 -- The answers that a script hasn't. The words are our own.
-use Rattle.std.specs.Prelude.{◌++◌, ℕ, Bool, List, codes, if◌then◌else◌}
+use Rattle.std.specs.Prelude.{◌++◌, ℕ, Bool, List, codes, is_some, if◌then◌else◌}
 use Rattle.std.specs.Fmt.{decimal}
 use Rattle.std.specs.List.{flat_map}
 use Rattle.std.specs.Str.Lines.{lines}
@@ -36,7 +36,8 @@ rest_word rest.Full = codes "full"
 
 -- a domain is quiet, or else its room is used up, or else it is busy
 abbrev pub rest_state_of : DomainStatus → RestState
-rest_state_of status = if status.is_quiet then rest.Quiet else (if status.room.rests then rest.Full else rest.Busy)
+rest_state_of status =
+    if status.is_quiet then rest.Quiet else (if is_some status.room.rests then rest.Full else rest.Busy)
 
 -- so it is with a user's domain
 abbrev pub rest_text : List ℕ → RestState → List ℕ

@@ -1,5 +1,5 @@
 -- Why the nodes of a domain do no more than they do.
-use Rattle.std.specs.Prelude.{◌≡◌, ◌≤◌, ◌==◌, ◌++◌, ℕ, List, [], Option, codes, nat_lt, if◌then◌else◌}
+use Rattle.std.specs.Prelude.{◌≡◌, ◌≤◌, ◌==◌, ◌++◌, ℕ, List, [], Option, codes, is_some, nat_lt, if◌then◌else◌}
 use Rattle.std.specs.Fmt.{decimal}
 use Rattle.domain_core.specs.Domain.{DomainValue}
 use Rattle.domain_core.specs.Moments.{MomentValue}
@@ -34,7 +34,7 @@ used_text status room =
 abbrev pub stop_text : DomainStatus → ℕ → List ℕ
 stop_text status room =
     if status.recorded == status.limit then full_text status
-    else (if status.room.rests then used_text status room else [])
+    else (if is_some status.room.rests then used_text status room else [])
 
 -- what is said of a domain: up to where it was done again, what its status says, and the causes
 abbrev pub moment_text : DomainStatus → ℕ → ℕ → List ℕ → List ℕ
@@ -49,7 +49,7 @@ pub record IsToldOf (group : UserGroup) (node : Option ℕ) (told : List ℕ) : 
   pub room : ℕ
   pub causes : List ℕ
   pub found : IsFound group.service.now.plan group.domain domain
-  pub status_of : IsStatusOf domain status
+  pub status_of : IsStatusOf group.service.now.room domain status
   pub recorded : commands_asked group ≤ status.recorded
   pub reached : IsReached group.service.now.plan group.domain moment
   pub explained : IsExplained moment node causes

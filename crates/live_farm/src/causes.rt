@@ -175,7 +175,7 @@ fn tell_stop(alloc: Global, status: DomainStatus, room: u64) -> Result<String, N
 {
     if status.recorded == status.limit {
         tell_full(alloc, status)
-    } else if status.room.rests {
+    } else if status.room.rests.is_some() {
         tell_used(alloc, status, room)
     } else {
         Ok(String::new(alloc))

@@ -47,11 +47,11 @@ fn line_of(
     let DomainStatus {
         recorded,
         limit,
-        room: RoomStatus { bytes, rests },
+        room: RoomStatus { bytes, rests, .. },
         ..
     } = status;
     let state = record_word(station.record_state());
-    let rest = if rests { " rests" } else { "" };
+    let rest = if rests.is_some() { " rests" } else { "" };
     let (records, record_room) = (station.record_bytes(), station.record_room());
     LiveAnswer::line(format!(in alloc;
         "!users {name} {answered} {recorded} {limit} {word}{state}{rest} {bytes} {room} {records} {record_room}"

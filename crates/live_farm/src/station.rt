@@ -370,7 +370,7 @@ fn note_records<R: Wait, K: SharedRecord, N: Notices>(
     let sizes = outputs.record.sizes(rt);
     station.note_sizes(sizes);
     if is_used_up(sizes.newest, room) {
-        group.service.halt(group.domain);
+        group.service.halt_for_records(group.domain);
     }
     Ok(())
 }
@@ -387,8 +387,9 @@ fn tell_rest<R: Wait, O: SharedOutlet, N: Notices>(
     let Ok(status) = group.service.room_status(rt, group.domain) else {
         return Ok(());
     };
-    let was_told = station.rest_is_told.swap(status.rests, Ordering::SeqCst);
-    if !status.rests || was_told {
+    let rests = status.rests.is_some();
+    let was_told = station.rest_is_told.swap(rests, Ordering::SeqCst);
+    if !rests || was_told {
         return Ok(());
     }
     let (used, room) = (status.bytes, group.service.room().bytes());

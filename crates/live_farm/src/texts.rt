@@ -147,7 +147,7 @@ impl RestState {
     {
         if status.is_quiet {
             RestState::Quiet
-        } else if status.room.rests {
+        } else if status.room.rests.is_some() {
             RestState::Full
         } else {
             RestState::Busy

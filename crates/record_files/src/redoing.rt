@@ -4,6 +4,7 @@ use crate::failure::FileFailure;
 use crate::finding::DomainStart;
 use crate::notices::Notices;
 use crate::progress::{RecordProgress, ReportingReader};
+use domain_core::NoMemory;
 use farm_records::{RecordFault, Redone, redo_record};
 use farm_service::SeatedDomain;
 use std::alloc::Global;
@@ -35,7 +36,17 @@ fn length_of(file: &File) -> Result<u64, RecordFault> {
     }
 }
 
-// Does a record again on its domain. Nothing of the file changes.
+// Reserves memory in a domain for as many entries as before its record was done again, or for all that there are, if they are
+// more: no more are added then.
+fn reserve_again(alloc: Global, domain: &mut SeatedDomain, before: usize) -> Result<(), NoMemory> {
+    if before == 0 {
+        return Ok(());
+    }
+    domain.reserve(alloc, before.max(domain.journal().len()))
+}
+
+// Does a record again on its domain, in which no memory is reserved any more: the record may be longer than the domain's room.
+// Nothing of the file changes.
 fn redo_file<R: Wait, N: Notices>(
     rt: &R,
     alloc: Global,
@@ -46,6 +57,7 @@ fn redo_file<R: Wait, N: Notices>(
     errors: &N,
 ) -> Result<TakenRecord, RecordFault> {
     let length = length_of(&file)?;
+    domain.reserve(alloc, 0)?;
     let redone = {
         let input = ReportingReader {
             input: &file,
@@ -74,16 +86,21 @@ fn redo_file<R: Wait, N: Notices>(
 }
 
 impl DomainStart {
-    // Does the newest record again, if that isn't done yet. If it can't be taken the domain is as it was opened.
+    // Does the newest record again, if that isn't done yet, and then reserves memory again. If the record can't be taken the domain
+    // is as it was opened.
     fn redo<R: Wait, N: Notices>(&mut self, rt: &R, alloc: Global, errors: &N) {
         let Some(file) = self.found.file.take() else {
             return;
         };
         let path = self.found.path.as_str();
         let head = self.found.head.as_str();
-        let taken = redo_file(rt, alloc, path, head, file, &mut self.domain, errors);
+        let reserved = self.domain.reserved_entries();
+        let mut taken = redo_file(rt, alloc, path, head, file, &mut self.domain, errors);
         if taken.is_err() {
             self.domain.restart();
+        }
+        if let Err(failed) = reserve_again(alloc, &mut self.domain, reserved) {
+            taken = Err(RecordFault::Memory(failed));
         }
         self.found.taken = Some(taken);
     }

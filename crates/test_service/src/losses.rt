@@ -1,4 +1,6 @@
 //! Losses that are planted in what a service left, so that it is seen that they are noticed.
+ghost use Rattle.std.specs.Prelude.{IfSome};
+ghost use Rattle.domain_core.specs.Journal.{IsNotEmpty};
 
 use crate::comparison::is_alike;
 use crate::watch::Watch;
@@ -26,7 +28,10 @@ pub const LOSSES: [Loss; 4] = [Loss::Step, Loss::Byte, Loss::Token, Loss::Word];
 
 impl Loss {
     // What is left of an entry.
-    fn left_of(self, entry: Entry) -> Option<Entry> {
+    fn left_of(self, entry: Entry) -> Option<Entry>
+        requires { IsNotEmpty entry }
+        ensures { IfSome result IsNotEmpty }
+    {
         match entry {
             Entry::One {
                 event: Event::Write(_, _),
@@ -48,18 +53,30 @@ impl Loss {
         }
     }
 
+    // The same, if nothing is lost yet.
+    fn left_after(self, is_lost: bool, entry: Entry) -> Option<Entry>
+        requires { IsNotEmpty entry }
+        ensures { IfSome result IsNotEmpty }
+    {
+        if is_lost {
+            Some(entry)
+        } else {
+            self.left_of(entry)
+        }
+    }
+
     // A journal after the loss, which is but one.
     fn journal(self, alloc: Global, journal: &Journal) -> Result<Journal, NoMemory> {
+        // No entry of a journal is empty.
+        journal.kept_law();
         let mut left = Journal::new(alloc);
         let mut is_lost = false;
         for index in 0..journal.len() {
-            let entry = journal.get(index);
-            let kept = if is_lost {
-                entry
-            } else {
-                entry.and_then(|entry| self.left_of(entry))
+            let Some(entry) = journal.get(index) else {
+                break;
             };
-            is_lost |= kept != entry;
+            let kept = self.left_after(is_lost, entry);
+            is_lost |= kept != Some(entry);
             if let Some(entry) = kept {
                 left.push(entry)?;
             }
