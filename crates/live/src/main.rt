@@ -5,10 +5,10 @@ ghost use Rattle.live_lines.specs.LiveRanges.{IsInRange};
 
 use clap::error::ErrorKind;
 use farm_service::{Histories, Room};
-use live_farm::{LiveFailure, LiveOutputs, Outlet, SharedOutlet, run_live};
+use live_farm::{LiveFailure, LiveOutputs, Outlet, SharedOutlet, no_records, run_live};
 use live_lines::{LiveSettings, live_settings};
 use plan_checker::{AcceptedPlan, accept_plan};
-use record_files::{FileFailure, FileRecords, Notices, RecordFolder, no_records};
+use record_files::{FileFailure, FileRecords, Notices, RecordFolder};
 use script_text::{ReadFault, read_whole, write_whole};
 use std::fs::File;
 use std::io::{self, BufRead, BufReader};
@@ -56,26 +56,32 @@ fn serve<R: Threads + Wait + Sync, I: BufRead + Send, O: SharedOutlet + Sync, N:
 ) -> Result<(), LiveFailure> {
     let alloc = files.alloc();
     let Start { settings, plan } = start;
-    let folder = match &settings.records {
+    let room = Room::of(settings.room);
+    match &settings.records {
         Some(records) => {
             let path = records.path.as_str();
-            Some(RecordFolder::open(files, alloc, path, records.syncs)?)
+            let folder = RecordFolder::open(files, alloc, path, records.syncs)?;
+            let mut histories = Histories::open_within(alloc, plan, room)?;
+            let kept: FileRecords<'_, HostRuntime> =
+                folder.open_records(rt, &mut histories, records.resumes, errors)?;
+            let outputs = LiveOutputs {
+                records: kept.as_slice(),
+                outlet,
+                errors,
+            };
+            run_live(rt, alloc, histories, &settings, &outputs, input, gauge)?;
         }
-        None => None,
-    };
-    let room = Room::of(settings.room);
-    let mut histories = Histories::open_within(alloc, plan, room)?;
-    let resumes = settings.records.as_ref().is_some_and(|it| it.resumes);
-    let records: FileRecords<'_, HostRuntime> = match &folder {
-        Some(folder) => folder.open_records(rt, &mut histories, resumes, errors)?,
-        None => no_records(alloc, histories.plan())?,
-    };
-    let outputs = LiveOutputs {
-        records: records.as_slice(),
-        outlet,
-        errors,
-    };
-    run_live(rt, alloc, histories, &settings, &outputs, input, gauge)?;
+        None => {
+            let histories = Histories::open_within(alloc, plan, room)?;
+            let records = no_records(alloc, histories.plan())?;
+            let outputs = LiveOutputs {
+                records: records.as_slice(),
+                outlet,
+                errors,
+            };
+            run_live(rt, alloc, histories, &settings, &outputs, input, gauge)?;
+        }
+    }
     Ok(())
 }
 

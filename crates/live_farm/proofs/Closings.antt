@@ -9,7 +9,7 @@ use Rattle.farm_service.specs.Closed.{AreListed, AllMetFullTruly}
 use Rattle.farm_service.specs.Histories.{with_history}
 use Rattle.farm_service.specs.Passes.{UserPassValue, fresh_passes, with_reserved}
 use Rattle.plan_rules.specs.declared.users.UserNumber.{UserNumber}
-use Rattle.live_farm.specs.FarmUsers.{user_number_of}
+use Rattle.live_farm.specs.Names.{user_number_of}
 use Rattle.live_farm.specs.Closings.{RecordSays, HaveListed, AreUsersListed, AreUsersRecorded}
 
 -- whatever they list and reserve, passes are of the same users

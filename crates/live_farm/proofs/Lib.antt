@@ -3,3 +3,5 @@ pub mod Closings
 pub mod Rests
 pub mod Recorded
 pub mod Keeping
+pub mod Members
+pub mod Following

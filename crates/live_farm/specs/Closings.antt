@@ -5,7 +5,7 @@ use Rattle.farm_service.specs.declared.closed.ClosedDomain.{ClosedDomain}
 use Rattle.farm_service.specs.Passes.{UserPassValue, fresh_passes}
 use Rattle.farm_service.specs.Closed.{AreListed, AllMetFullTruly}
 use Rattle.live_farm.specs.Asking.{commands_listed}
-use Rattle.live_farm.specs.FarmUsers.{user_number_of}
+use Rattle.live_farm.specs.Names.{user_number_of}
 
 -- the passes of a plan's users, in its order: each lists the user's commands in the journal of the user's domain, and
 -- nothing else, and has met a full journal only if that one is full

@@ -1,15 +1,10 @@
 -- All users of a farm, and to whom a line goes.
 use Rattle.std.specs.Prelude.{◌≡◌, ℕ, List, Option, Some, option_map, option_and_then, slice_get}
 use Rattle.plan_rules.specs.declared.users.UserNumber.{UserNumber}
-use Rattle.farm_service.specs.Passes.{UserPassValue}
 use Rattle.live_farm.specs.declared.farm_users.FarmUsers.{FarmUsers}
 use Rattle.live_farm.specs.declared.queued.QueuedLine.{QueuedLine}
 use Rattle.live_farm.specs.declared.queued.QueuedRequest.{QueuedRequest}
 use Rattle.live_farm.specs.declared.mailbox.Mailbox.{Mailbox}
-
--- whose a pass is
-abbrev pub user_number_of : UserPassValue → UserNumber
-user_number_of pass = record { domain = pass.domain; user = pass.user }
 
 -- a request of the line of this number, as a queued line for this user
 abbrev pub queued_for : UserNumber → ℕ → QueuedRequest → QueuedLine

@@ -1,6 +1,6 @@
 -- What the lines of a domain's users do to their sessions, and how they are answered.
 use Rattle.std.specs.Prelude.{string_bytes, ◌≡◌, ◌≤◌, ◌⊎◌, ⊤, ℕ, Bool, true, false, List, [], Option, Some, None, IfSome, length, map, slice_get, slice_set, codes, if◌then◌else◌}
-use Rattle.std.specs.Borrow.{Bor}
+use Rattle.plan_rules.specs.Users.{name_at}
 use Rattle.domain_core.specs.Domain.{DomainValue}
 use Rattle.farm_service.specs.declared.status.DomainStatus.{DomainStatus}
 use Rattle.farm_service.specs.Domains.{IsFound, IsStatusOf}
@@ -20,25 +20,29 @@ use Rattle.live_farm.specs.declared.record.RecordState.{RecordState}
 use Rattle.live_farm.specs.declared.record.RecordState.TheVariants as state
 use Rattle.live_farm.specs.declared.texts.NotDone.{NotDone}
 use Rattle.live_farm.specs.declared.texts.NotDone.TheVariants as why
+use Rattle.live_farm.specs.Names.{user_number_of}
 use Rattle.live_farm.specs.Asking.{commands_asked}
 use Rattle.live_farm.specs.Whys.{IsToldOf}
 use Rattle.live_farm.specs.LiveTexts.{error_text, rest_text, rest_state_of, restart_text, why_text, no_node_text, operator_restart_text}
 
+-- the user of this number in the domain of these users has a session of the user's own, and is called so in the plan
+pub record IsNamedSo (group : UserGroup) (user : ℕ) (name : List ℕ) : Type 0 where
+  pub session : SessionValue
+  pub there : slice_get group.sessions.items user ≡ Some session
+  pub whose : user_number_of session.pass ≡ record { domain = group.domain; user = user }
+  pub called : name_at group.service.now.plan (user_number_of session.pass) ≡ Some name
+
 -- a line of this user is answered by this text: the user's session gains what the line asked, and no other session
 -- changes
 pub record AnswersLine (before after : UserGroup) (user : ℕ) (command : Command) (text : List ℕ) : Type 0 where
-  pub name : Bor (List ℕ)
+  pub name : List ℕ
   pub entry : SessionValue
   pub exit : SessionValue
-  pub named : slice_get before.names.items user ≡ Some name
+  pub named : IsNamedSo before user name
   pub session : slice_get before.sessions.items user ≡ Some entry
-  pub answered : IsAnswered name.now command entry exit [] text
+  pub answered : IsAnswered name command entry exit [] text
   pub sessions : after.sessions.items ≡ slice_set before.sessions.items user exit
   pub names : after.names ≡ before.names
-
--- the user of this number is called so
-abbrev pub IsNamedSo : UserGroup → ℕ → Bor (List ℕ) → Type 0
-IsNamedSo group user name = slice_get group.names.items user ≡ Some name
 
 -- nobody's session changes
 abbrev pub AllStay : UserGroup → UserGroup → Type 0
@@ -67,13 +71,13 @@ IsStatusHere group status =
 -- a user is answered whether the user's domain is at rest, as its status says
 abbrev pub AnswersRest : UserGroup → ℕ → List ℕ → Type 0
 AnswersRest group user text =
-    (name : Bor (List ℕ)) × (status : DomainStatus) × IsNamedSo group user name × IsStatusHere group status
-    × (text ≡ rest_text name.now (rest_state_of status))
+    (name : List ℕ) × (status : DomainStatus) × IsNamedSo group user name × IsStatusHere group status
+    × (text ≡ rest_text name (rest_state_of status))
 
 -- a user who is alone in a domain begins it again; or the user is answered that only the operator may
 abbrev pub AnswersRestart : UserGroup → UserGroup → ℕ → Bool → List ℕ → Type 0
 AnswersRestart before after user done text =
-    (name : Bor (List ℕ)) × IsNamedSo before user name × (text ≡ restart_text name.now done)
+    (name : List ℕ) × IsNamedSo before user name × (text ≡ restart_text name done)
     × BeginsIf done before after
     × (done ≡ true → length before.sessions.items ≡ 1)
 
@@ -89,22 +93,22 @@ LacksNode group (Some node) name text =
 -- by the number of the user's line, that what the domain answered can't be done again
 abbrev pub AnswersWhy : UserGroup → ℕ → ℕ → Option ℕ → List ℕ → Type 0
 AnswersWhy group user number node text =
-    (name : Bor (List ℕ)) × IsNamedSo group user name
-    × (((told : List ℕ) × IsToldOf group node told × (text ≡ why_text name.now told))
-    ⊎ (LacksNode group node name.now text ⊎ (text ≡ error_text name.now number why.Journal)))
+    (name : List ℕ) × IsNamedSo group user name
+    × (((told : List ℕ) × IsToldOf group node told × (text ≡ why_text name told))
+    ⊎ (LacksNode group node name text ⊎ (text ≡ error_text name number why.Journal)))
 
 -- the domain of a user begins again, as the operator asked in the line of this number; or nothing changes, and the
 -- operator is answered the error `user`
 abbrev pub AnswersOperator : UserGroup → UserGroup → ℕ → ℕ → Bool → List ℕ → Type 0
 AnswersOperator before after user number done text =
-    (name : Bor (List ℕ)) × IsNamedSo before user name × BeginsIf done before after
+    (name : List ℕ) × IsNamedSo before user name × BeginsIf done before after
     × (text
-    ≡ (if done then operator_restart_text name.now else error_text (codes "!") number (why.Fault fault.User)))
+    ≡ (if done then operator_restart_text name else error_text (codes "!") number (why.Fault fault.User)))
 
 -- a wrong line asks nothing, and its user is answered why it is wrong
 abbrev pub AnswersWrong : UserGroup → UserGroup → ℕ → ℕ → NotDone → List ℕ → Type 0
 AnswersWrong before after user number w text =
-    (name : Bor (List ℕ)) × IsNamedSo before user name × (text ≡ error_text name.now number w)
+    (name : List ℕ) × IsNamedSo before user name × (text ≡ error_text name number w)
     × AllStay before after
 
 -- what a line is answered, and whether the domain begins again by it
@@ -151,11 +155,11 @@ may_be_answered state.Out line.OperatorRestart = true
 -- who asked is answered that something can't be recorded. The line may have been done or not
 abbrev pub TellsUnrecorded : UserGroup → QueuedLine → List ℕ → Type 0
 TellsUnrecorded group queued text =
-    (name : Bor (List ℕ)) × IsNamedSo group queued.user name
-    × (text ≡ error_text (asker_name name.now queued.request) queued.number why.Record)
+    (name : List ℕ) × IsNamedSo group queued.user name
+    × (text ≡ error_text (asker_name name queued.request) queued.number why.Record)
 
 -- a line for which the domain has no room is answered so
 abbrev pub TellsFull : UserGroup → QueuedLine → List ℕ → Type 0
 TellsFull group queued text =
-    (name : Bor (List ℕ)) × IsNamedSo group queued.user name
-    × (text ≡ error_text (asker_name name.now queued.request) queued.number why.Full)
+    (name : List ℕ) × IsNamedSo group queued.user name
+    × (text ≡ error_text (asker_name name queued.request) queued.number why.Full)

@@ -1,11 +1,18 @@
 -- Why the nodes of a domain do no more than they do.
-use Rattle.std.specs.Prelude.{◌≡◌, ◌≤◌, ◌==◌, ◌++◌, ℕ, List, [], Option, codes, is_some, nat_lt, if◌then◌else◌}
+use Rattle.std.specs.Prelude.{◌≡◌, ◌≤◌, ◌==◌, ◌++◌, ℕ, List, [], ◌∷◌, Option, codes, is_some, nat_lt, take, if◌then◌else◌}
 use Rattle.std.specs.Fmt.{decimal}
+use Rattle.std.specs.List.{flat_map}
+use Rattle.plan_rules.specs.Data.{DomainData}
+use Rattle.domain_core.specs.declared.copying.Mark.{Mark}
+use Rattle.domain_core.specs.declared.journal.Entry.{Entry}
+use Rattle.domain_core.specs.Journal.{expanded}
+use Rattle.domain_core.specs.Marks.{events_from}
+use Rattle.domain_core.specs.PrivateFarm.{Call}
 use Rattle.domain_core.specs.Domain.{DomainValue}
 use Rattle.domain_core.specs.Moments.{MomentValue}
 use Rattle.farm_service.specs.declared.status.DomainStatus.{DomainStatus}
-use Rattle.farm_service.specs.Domains.{IsFound, IsStatusOf}
-use Rattle.record_following.specs.Following.{IsReached}
+use Rattle.farm_service.specs.Domains.{IsFound, IsStatusOf, GainsCopies}
+use Rattle.record_following.specs.Following.{entry_calls, IsMomentAfter}
 use Rattle.node_causes.specs.Explained.{IsExplained}
 use Rattle.live_farm.specs.declared.group.UserGroup.{UserGroup}
 use Rattle.live_farm.specs.Asking.{commands_asked}
@@ -40,17 +47,46 @@ stop_text status room =
 abbrev pub moment_text : DomainStatus → ℕ → ℕ → List ℕ → List ℕ
 moment_text status room done causes = after_text done status.recorded ++ stop_text status room ++ causes
 
+-- a piece of a domain's journal that was copied where there was room for `places` entries, with the mark after it; and
+-- how many of the calls that its entries mean were made again
+pub record FollowedPiece : Type 0 where
+  pub entries : List Entry
+  pub reached : Mark
+  pub places : ℕ
+  pub count : ℕ
+
+-- the journal of a domain of this number gained these pieces, one after another, from a mark up to another
+abbrev pub ArePieces : List DomainData → ℕ → Mark → List FollowedPiece → Mark → Type 0
+ArePieces plan number from [] to = to ≡ from
+ArePieces plan number from (piece ∷ later) to =
+    GainsCopies plan number from piece.reached [] piece.entries 0 piece.places
+    × ArePieces plan number piece.reached later to
+
+-- the calls that were made again
+abbrev pub calls_followed : List FollowedPiece → List Call
+calls_followed pieces = flat_map (λ piece. take piece.count (entry_calls piece.entries)) pieces
+
+-- the domain of this number at the moment after calls of pieces that its journal had, from the journal's beginning on
+pub record IsFollowed (plan : List DomainData) (number : ℕ) (mark : Mark) (moment : MomentValue) : Type 0 where
+  pub start : Mark
+  pub pieces : List FollowedPiece
+  pub beginning : (journal : List Entry) → events_from start journal ≡ expanded journal
+  pub gained : ArePieces plan number start pieces mark
+  pub after : IsMomentAfter plan number (calls_followed pieces) moment
+
 -- what is said of the domain of these users, and of all its nodes or the one that is asked for: of a moment to which
--- calls of it lead, and of its status when it had recorded as many events as its users were answered commands, or more
+-- calls in its journal lead, and of its status when it had recorded as many events as its users were answered commands,
+-- or more
 pub record IsToldOf (group : UserGroup) (node : Option ℕ) (told : List ℕ) : Type 0 where
   pub domain : DomainValue
   pub status : DomainStatus
+  pub mark : Mark
   pub moment : MomentValue
   pub room : ℕ
   pub causes : List ℕ
   pub found : IsFound group.service.now.plan group.domain domain
   pub status_of : IsStatusOf group.service.now.room domain status
   pub recorded : commands_asked group ≤ status.recorded
-  pub reached : IsReached group.service.now.plan group.domain moment
+  pub followed : IsFollowed group.service.now.plan group.domain mark moment
   pub explained : IsExplained moment node causes
   pub text : told ≡ moment_text status room moment.recorded causes

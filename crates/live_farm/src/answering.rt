@@ -70,13 +70,14 @@ impl UserGroup<'_> {
         ensures line { IfOk result (λ text. AnswersLine self.old self.new user command.now (string_bytes text)) }
         ensures same { IsSameDomain self.old self.new }
     {
+        let name = self.name(user);
         let mut text = String::new(alloc);
         answer_line(
             rt,
             alloc,
             &mut self.sessions[user],
             self.quantum,
-            self.names[user],
+            name,
             command,
             &mut text,
         )?;

@@ -1,8 +1,7 @@
 //! Why the nodes of a domain do no more than they do: what it answered is done again on a separate domain.
 ghost use Rattle.std.specs.Prelude.{◌≡◌, ◌<◌, IfOk, length, string_bytes};
-ghost use Rattle.record_following.specs.Following.{IsReached};
 ghost use Rattle.live_farm.specs.Groups.{IsStatusHere};
-ghost use Rattle.live_farm.specs.Whys.{IsToldOf, after_text, full_text, moment_text, stop_text, used_text};
+ghost use Rattle.live_farm.specs.Whys.{IsFollowed, IsToldOf, after_text, full_text, moment_text, stop_text, used_text};
 
 use crate::group::UserGroup;
 use domain_core::{Entry, Mark, NoMemory};
@@ -47,7 +46,7 @@ impl JournalReplay {
     // The domain of this number of a plan as it is opened.
     fn open(alloc: Global, plan: &AcceptedPlan, domain: u8) -> Result<JournalReplay, NoMemory>
         requires { domain < length plan.now }
-        ensures { IfOk result (λ it. IsReached plan.now domain it.replayed) }
+        ensures { IfOk result (λ it. IsFollowed plan.now domain it.mark it.replayed) }
     {
         let room = Vec::with_capacity(alloc, PIECE)?;
         Ok(JournalReplay {
@@ -66,8 +65,8 @@ impl JournalReplay {
         domain: u8,
         end: u64,
     ) -> Result<bool, FollowFault>
-        requires { IsReached service.now.plan domain self.old.replayed }
-        ensures { IfOk result (λ _. IsReached service.now.plan domain self.new.replayed) }
+        requires { IsFollowed service.now.plan domain self.old.mark self.old.replayed }
+        ensures { IfOk result (λ _. IsFollowed service.now.plan domain self.new.mark self.new.replayed) }
     {
         // A moment that goes on is one after more calls.
         moments_go_on();
@@ -99,8 +98,8 @@ impl JournalReplay {
         domain: u8,
         end: u64,
     ) -> Result<(), FollowFault>
-        requires { IsReached service.now.plan domain self.old.replayed }
-        ensures { IfOk result (λ _. IsReached service.now.plan domain self.new.replayed) }
+        requires { IsFollowed service.now.plan domain self.old.mark self.old.replayed }
+        ensures { IfOk result (λ _. IsFollowed service.now.plan domain self.new.mark self.new.replayed) }
     {
         // Each piece counts, so there are fewer.
         for _piece in 0..MOST_AGAIN {
@@ -121,7 +120,7 @@ impl JournalReplay {
         status: DomainStatus,
         node: Option<u8>,
     ) -> Result<String, FollowFault>
-        requires reached { IsReached group.now.service.now.plan group.now.domain self.old.replayed }
+        requires followed { IsFollowed group.now.service.now.plan group.now.domain self.old.mark self.old.replayed }
         requires status { IsStatusHere group.now status }
         ensures { IfOk result (λ told. IsToldOf group.now node (string_bytes told)) }
     {

@@ -1,4 +1,6 @@
 //! Who reads the lines: users' lines go to the threads of their domains, and the operator's are answered here.
+ghost use Rattle.std.specs.Prelude.{◌<◌, IfSome, OnOk, length, map};
+ghost use Rattle.live_farm.specs.Sending.{IsOperatorsSent, IsFateSent, IsNextSent};
 
 use crate::failure::LiveStop;
 use crate::farm_users::FarmUsers;
@@ -7,6 +9,7 @@ use crate::mailbox::Sent;
 use crate::operator::Operator;
 use crate::outlet::SharedOutlet;
 use crate::queued::QueuedRequest;
+use crate::sending::LineSender;
 use crate::texts::{NotDone, error_answer, unknown_user_answer};
 use live_lines::{MOST_LINE_BYTES, OperatorRequest};
 use record_files::Notices;
@@ -18,14 +21,16 @@ use std::sync::Wait;
 
 /// Who hands out lines to the users' domains.
 #[derive(Drop)]
-pub struct Dispatcher<'a, 'b> {
+pub struct Dispatcher<'a, 'b, U> {
     /// All users.
     pub farm_users: &'b FarmUsers<'a>,
+    /// Who takes their lines.
+    pub sender: &'b U,
     /// For what is allocated.
     pub alloc: Global,
 }
 
-impl Dispatcher<'_, '_> {
+impl<U: LineSender> Dispatcher<'_, '_, U> {
     // Answers immediately that a line isn't done, and why.
     fn tell<R: Wait, O: SharedOutlet>(
         &self,
@@ -49,13 +54,15 @@ impl Dispatcher<'_, '_> {
         user: usize,
         number: u64,
         request: QueuedRequest,
-    ) -> Result<(), LiveStop> {
+    ) -> Result<(), LiveStop>
+        ensures { user < length self.now.farm_users.now.names.items → U.was_sent self.now.sender.now user number request }
+    {
         let name = match (&request, self.farm_users.names.get(user)) {
             (QueuedRequest::OperatorRestart, _) => "!",
             (_, Some(name)) => name,
             (_, None) => return Ok(()),
         };
-        match self.farm_users.send(rt, user, number, request) {
+        match self.sender.send(rt, user, number, request) {
             Sent::Waits => Ok(()),
             Sent::Full => self.tell(rt, outlet, name, number, NotDone::Busy),
             Sent::NoMemory => self.tell(rt, outlet, name, number, NotDone::Memory),
@@ -70,7 +77,9 @@ impl Dispatcher<'_, '_> {
         operator: &mut Operator<'_>,
         number: u64,
         request: OperatorRequest,
-    ) -> Result<ControlFlow<()>, LiveStop> {
+    ) -> Result<ControlFlow<()>, LiveStop>
+        ensures { OnOk result (IsOperatorsSent U.was_sent self.now.sender.now (length self.now.farm_users.now.names.items) number request) }
+    {
         match request {
             OperatorRequest::Words => {
                 outlet.put_answer(rt, &operator.words(self.alloc)?);
@@ -109,7 +118,9 @@ impl Dispatcher<'_, '_> {
         errors: &N,
         number: u64,
         fate: LineFate,
-    ) -> Result<ControlFlow<()>, LiveStop> {
+    ) -> Result<ControlFlow<()>, LiveStop>
+        ensures { OnOk result (IsFateSent U.was_sent self.now.sender.now (length self.now.farm_users.now.names.items) number fate) }
+    {
         match fate {
             LineFate::End => return Ok(ControlFlow::Break(())),
             LineFate::PassedOver => {}
@@ -148,7 +159,11 @@ impl Dispatcher<'_, '_> {
         input: &mut I,
         errors: &N,
         number: u64,
-    ) -> Result<ControlFlow<()>, LiveStop> {
+    ) -> Result<ControlFlow<()>, LiveStop>
+        ensures { OnOk result (IfSome (I.remaining input.old)
+            (IsNextSent U.was_sent self.now.sender.now (map (λ n. n.now) self.now.farm_users.now.names.items)
+            (length self.now.farm_users.now.names.items) MOST_LINE_BYTES number)) }
+    {
         let read = match next_line(self.alloc, input, MOST_LINE_BYTES) {
             Ok(read) => read,
             Err(error) => return Err(LiveStop::of_input(&error)),

@@ -2,11 +2,12 @@
 
 ghost use Rattle.std.specs.Prelude.{◌≡◌, ◌<◌, ◌++◌, ◌∷◌, [], length, map, IfOk, IfSome, OnOk, option_map, Some, true};
 ghost use Rattle.plan_rules.specs.Users.{name_at};
-ghost use Rattle.live_farm.specs.FarmUsers.{user_number_of, mailed};
+ghost use Rattle.live_farm.specs.FarmUsers.{mailed};
+ghost use Rattle.live_farm.specs.Names.{user_number_of};
 
 use crate::failure::LiveFailure;
 use crate::group::UserGroup;
-use crate::mailbox::{Mailbox, Sent};
+use crate::mailbox::Mailbox;
 use crate::queued::{QueuedLine, QueuedRequest};
 use crate::station::Station;
 use domain_core::NoMemory;
@@ -40,6 +41,16 @@ impl Drop for FarmUsers<'_> {
     }
 }
 
+/// Whose a pass is.
+pub(crate) fn number_of(pass: &UserPass) -> UserNumber
+    ensures { result ≡ user_number_of pass.now }
+{
+    UserNumber {
+        domain: pass.domain(),
+        user: pass.user(),
+    }
+}
+
 /// The name of a user of a plan.
 pub(crate) fn name_of<'a>(plan: &'a AcceptedPlan, number: UserNumber) -> Option<&'a str>
     ensures domain { IfSome result (λ _. number.domain < length plan.now) }
@@ -65,7 +76,8 @@ fn groups_of<'a>(
     Ok(groups)
 }
 
-// Adds a user to the users and to the group of the user's domain. It is an error if the plan has no such user.
+// Adds a user to the users and to the group of the user's domain. It is an error if the plan has no such user, or if another one
+// of the domain is next.
 fn join<'a>(
     service: &'a Service,
     groups: &mut Vec<UserGroup<'a>>,
@@ -77,10 +89,7 @@ fn join<'a>(
         ≡ map (λ n. Some n.now) farm_users.old.names.items ++ name_at service.now.plan (user_number_of pass) ∷ []) }
     ensures stations { farm_users.new.stations ≡ farm_users.old.stations }
 {
-    let number = UserNumber {
-        domain: pass.domain(),
-        user: pass.user(),
-    };
+    let number = number_of(&pass);
     let Some(name) = name_of(service.plan(), number) else {
         return Err(LiveFailure::Histories);
     };
@@ -89,8 +98,7 @@ fn join<'a>(
     };
     farm_users.names.push(name)?;
     farm_users.numbers.push(number)?;
-    group.add(name, service.session(pass))?;
-    Ok(())
+    group.add(pass)
 }
 
 // Gives each group a station.
@@ -205,7 +213,7 @@ impl<'a> FarmUsers<'a> {
     }
 
     // Into whose mailbox a request of the line of this number goes, and as what queued line, by the place of the user's name.
-    fn queued_for(
+    pub(crate) fn queued_for(
         &self,
         user: usize,
         number: u64,
@@ -221,15 +229,6 @@ impl<'a> FarmUsers<'a> {
             request,
         };
         Some((&station.mailbox, queued))
-    }
-
-    /// Puts a request of the line of this number into the mailbox of a user's domain. `user` is the place of the user's name among
-    /// all.
-    pub fn send<R: Wait>(&self, rt: &R, user: usize, number: u64, request: QueuedRequest) -> Sent {
-        match self.queued_for(user, number, request) {
-            Some((mailbox, queued)) => mailbox.put(rt, queued),
-            None => Sent::Waits,
-        }
     }
 
     /// Whether the thread of a domain ran out of memory.

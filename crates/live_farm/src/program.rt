@@ -5,7 +5,7 @@ ghost use Rattle.whole_farm.specs.Places.{places_of};
 ghost use Rattle.farm_service.specs.Closed.{AreDomainsOf, EachMergeRuns, AreListed, AllMetFullTruly, AllAreRightlyAsked};
 ghost use Rattle.live_lines.specs.LiveRanges.{IsInRange};
 ghost use Rattle.live_farm.specs.Asking.{commands_listed};
-ghost use Rattle.live_farm.specs.FarmUsers.{user_number_of};
+ghost use Rattle.live_farm.specs.Names.{user_number_of};
 ghost use Rattle.live_farm.specs.Closings.{AreUsersListed, HasListed, HasListedAt, HaveListed, WasAskedAt, AllWereAsked, AreUsersRecorded};
 
 use crate::asked::AskedCommands;

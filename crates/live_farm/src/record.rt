@@ -7,6 +7,7 @@ use crate::asked::AskedCommands;
 use crate::failure::LiveFailure;
 use domain_core::NoMemory;
 use farm_service::Service;
+use plan_checker::AcceptedPlan;
 use record_files::{FileFailure, Notices, names_of};
 use record_keeping::{DomainRecord, NotKept, RecordStore};
 use std::alloc::Global;
@@ -27,10 +28,10 @@ pub enum RecordState {
 // That a record isn't whole, with its place.
 fn failure_of<S: RecordStore>(record: &DomainRecord<S>, alloc: Global) -> LiveFailure {
     match record.path(alloc) {
-        Ok(Some(path)) => {
+        Ok(path) => {
             LiveFailure::from(FileFailure::of_record(alloc, path.as_str(), "it isn't whole"))
         }
-        Ok(None) | Err(NoMemory) => LiveFailure::Memory,
+        Err(NoMemory) => LiveFailure::Memory,
     }
 }
 
@@ -81,10 +82,10 @@ pub trait SharedRecord {
     /// How many bytes the domain's records take.
     fn sizes<R: Wait>(&self, rt: &R) -> RecordSizes;
 
-    /// As [`DomainRecord::remove_oldest`].
+    /// As [`DomainRecord::remove_oldest`]. If nothing is recorded there is none.
     fn remove_oldest<R: Wait>(&self, rt: &R) -> io::Result<Option<String>>;
 
-    /// As [`DomainRecord::path`].
+    /// As [`DomainRecord::path`]; nowhere if nothing is recorded.
     fn path<R: Wait>(&self, rt: &R, alloc: Global) -> Result<Option<String>, NoMemory>;
 
     /// What the run says at its end of a record in which something is missing.
@@ -129,12 +130,64 @@ impl<S: RecordStore> SharedRecord for Mutex<DomainRecord<S>> {
     }
 
     fn path<R: Wait>(&self, rt: &R, alloc: Global) -> Result<Option<String>, NoMemory> {
-        self.lock(rt).path(alloc)
+        Ok(Some(self.lock(rt).path(alloc)?))
     }
 
     fn failure<R: Wait>(&self, rt: &R, alloc: Global) -> LiveFailure {
         failure_of(&self.lock(rt), alloc)
     }
+}
+
+/// The record of a domain if nothing is recorded.
+#[derive(Clone, Copy)]
+pub struct NoRecord;
+
+impl SharedRecord for NoRecord {
+    fn keep<R: Wait>(
+        &self,
+        _rt: &R,
+        _service: &Service,
+        _asked: AskedCommands,
+        _begins_anew: bool,
+    ) -> Result<(), NotKept> {
+        Ok(())
+    }
+
+    fn state<R: Wait>(&self, _rt: &R) -> RecordState {
+        RecordState::Kept
+    }
+
+    fn sizes<R: Wait>(&self, _rt: &R) -> RecordSizes {
+        RecordSizes {
+            newest: 0,
+            older: 0,
+        }
+    }
+
+    fn remove_oldest<R: Wait>(&self, _rt: &R) -> io::Result<Option<String>> {
+        Ok(None)
+    }
+
+    fn path<R: Wait>(&self, _rt: &R, _alloc: Global) -> Result<Option<String>, NoMemory> {
+        Ok(None)
+    }
+
+    fn failure<R: Wait>(&self, _rt: &R, _alloc: Global) -> LiveFailure {
+        LiveFailure::Memory
+    }
+}
+
+/// As many of them as the plan has domains.
+///
+/// # Errors
+///
+/// `NoMemory` if there is none for the list.
+pub fn no_records(alloc: Global, plan: &AcceptedPlan) -> Result<Vec<NoRecord>, NoMemory> {
+    let mut records = Vec::new(alloc);
+    for _ in 0..plan.domains() {
+        records.push(NoRecord)?;
+    }
+    Ok(records)
 }
 
 /// The record of a domain, and where its notices go.

@@ -1,5 +1,6 @@
 //! A domain's thread: it answers the lines that come to its mailbox.
-ghost use Rattle.std.specs.Prelude.{◌≡◌, ◌<◌, ◌⊎◌, false, length, IfOk, string_bytes};
+ghost use Rattle.std.specs.Prelude.{◌≡◌, ◌<◌, ◌⊎◌, false, length, IfOk, OnOk, string_bytes};
+ghost use Rattle.live_farm.specs.declared.answering.QueuedAnswer.{QueuedAnswer as SpecAnswer};
 ghost use Rattle.live_farm.specs.Asking.{commands_asked};
 ghost use Rattle.live_farm.specs.Groups.{AllStay, AnswersQueued, TellsUnrecorded, TellsFull, may_be_answered};
 
@@ -322,7 +323,7 @@ fn state_before<R: Wait, K: SharedRecord, N: Notices>(
     }
 }
 
-// Answers a line, counts it, and writes the answer. Only then the domain settles, if a line of a script was done.
+// Answers a line, counts it, and writes that answer. Only then the domain settles, if a line of a script was done.
 fn serve_queued<R: Wait, K: SharedRecord, O: SharedOutlet, N: Notices>(
     rt: &R,
     alloc: Global,
@@ -333,6 +334,11 @@ fn serve_queued<R: Wait, K: SharedRecord, O: SharedOutlet, N: Notices>(
     outlet: &O,
 ) -> Result<(), NoMemory>
     requires { queued.now.user < length group.old.sessions.items }
+    ensures { OnOk result ((a : SpecAnswer) × O.was_put outlet.now (string_bytes a.lines.text)
+        × ((AnswersQueued group.old group.new queued.now a
+        × K.has_kept outputs.now.«record».now group.old.service.now.plan group.old.domain (commands_asked group.new))
+        ⊎ (TellsUnrecorded group.new queued.now (string_bytes a.lines.text)
+        ⊎ (AllStay group.old group.new × TellsFull group.new queued.now (string_bytes a.lines.text))))) }
 {
     let state = state_before(rt, alloc, station, group, outputs)?;
     let has_room = has_room_for(rt, group, queued, station);

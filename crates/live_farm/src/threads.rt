@@ -33,7 +33,7 @@ fn run_stations<
 >(
     rt: &R,
     stations: &[Station<'_>],
-    dispatcher: &Dispatcher<'_, '_>,
+    dispatcher: &Dispatcher<'_, '_, FarmUsers<'_>>,
     outputs: &LiveOutputs<'_, K, O, N>,
     operator: &mut Operator<'_>,
     input: &mut I,
@@ -86,7 +86,11 @@ pub fn run_farm_users<
     operator: &mut Operator<'_>,
     input: &mut I,
 ) -> Result<(), LiveStop> {
-    let dispatcher = Dispatcher { farm_users, alloc };
+    let dispatcher = Dispatcher {
+        farm_users,
+        sender: farm_users,
+        alloc,
+    };
     run_stations(
         rt,
         farm_users.stations.as_slice(),

@@ -14,6 +14,5 @@ mod redoing;
 pub use failure::FileFailure;
 pub use names::names_of;
 pub use notices::Notices;
-pub use opening::no_records;
 pub use record_file::{FileRecords, RecordFile};
 pub use record_folder::RecordFolder;

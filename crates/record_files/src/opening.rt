@@ -189,19 +189,3 @@ impl<'a, F: Files<File = File> + Alloc<A = Global> + Clone + Drop> RecordFolder<
         Ok(records)
     }
 }
-
-/// As many records as the plan has domains, in which nothing is kept.
-///
-/// # Errors
-///
-/// `NoMemory` if there is none for the list.
-pub fn no_records<'a, F: Files<File = File>>(
-    alloc: Global,
-    plan: &AcceptedPlan,
-) -> Result<FileRecords<'a, F>, NoMemory> {
-    let mut records = Vec::new(alloc);
-    for _ in 0..plan.domains() {
-        records.push(Mutex::new(DomainRecord::none(alloc)))?;
-    }
-    Ok(records)
-}

@@ -11,7 +11,6 @@ use Rattle.record_keeping.specs.Counts.{commands_among, saturated}
 use Rattle.record_keeping.specs.Pieces.{entries_of, AreGained, EndWithRoom}
 use Rattle.record_keeping.specs.Keeping.{IsSameRecord, KeepsGained, KeepsSome}
 use Rattle.record_keeping.specs.KeptPieces.{KeepsPieces, KeepsNothing}
-use Rattle.record_keeping.specs.Writing.{stored_text}
 use Rattle.record_keeping.proofs.Counting.{count_twice, count_stays}
 use Rattle.record_keeping.proofs.Pieces.{both_gained, all_end_with_room, text_of_both, commands_of_both}
 
@@ -37,10 +36,10 @@ both_kept law whole plan number more old between new same first second =
           all_end_with_room places first.pieces second.pieces
           (subst (λ (n : ℕ). EndWithRoom n second.pieces) same (second.last done inside));
       text =
-          subst (λ (text : List ℕ). Appends (stored_text whole old.store) (stored_text whole new.store) text)
+          subst (λ (text : List ℕ). Appends (whole old.store) (whole new.store) text)
           (sym (text_of_both first.pieces second.pieces))
-          (Appends-trans (stored_text whole old.store) (stored_text whole between.store)
-          (stored_text whole new.store) (record_text (lines_of (entries_of first.pieces)))
+          (Appends-trans (whole old.store) (whole between.store)
+          (whole new.store) (record_text (lines_of (entries_of first.pieces)))
           (record_text (lines_of (entries_of second.pieces))) first.text second.text);
       commands =
           second.commands ∙ ap (λ (n : ℕ). saturated (n + others)) first.commands
@@ -66,7 +65,6 @@ pub still_same : {S : Type 0} {g : _} (old between new : DomainRecord S g) → I
 still_same old between new first second = record {
   head = second.head ∙ first.head;
   places = second.places ∙ first.places;
-  store = (λ some. first.store.0 (second.store.0 some), λ some. second.store.1 (first.store.1 some));
 }
 
 -- what stays gains nothing
@@ -82,7 +80,7 @@ nothing_kept whole plan number old new none = record {
   pieces = [];
   gained = none.mark;
   last = λ more. absurd (search rules);
-  text = stays_whole (stored_text whole old.store) (stored_text whole new.store) none.text;
+  text = stays_whole (whole old.store) (whole new.store) none.text;
   commands = none.commands ∙ count_stays old.commands 0 old.in_range refl;
 }
 

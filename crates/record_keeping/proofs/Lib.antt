@@ -1,3 +1,4 @@
 pub mod Counting
 pub mod Pieces
 pub mod Keeping
+pub mod Holding

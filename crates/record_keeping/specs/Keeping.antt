@@ -6,13 +6,12 @@ use Rattle.farm_records.specs.RecordText.{record_text, lines_of}
 use Rattle.record_keeping.specs.declared.domain_record.DomainRecord.{DomainRecord}
 use Rattle.record_keeping.specs.Counts.{commands_among, saturated}
 use Rattle.record_keeping.specs.Pieces.{JournalPiece, entries_of, AreGained, EndWithRoom, IsBeginning}
-use Rattle.record_keeping.specs.Writing.{IsWritten, stored_text}
+use Rattle.record_keeping.specs.Writing.{IsWritten}
 
--- what no call changes of a record: its head, how many entries are copied at a time, and whether it has a store
+-- what no call changes of a record: its head, and how many entries are copied at a time
 pub record IsSameRecord {S : Type 0} {g : _} (old new : DomainRecord S g) : Type 0 where
   pub head : new.head ≡ old.head
   pub places : vec_capacity new.room ≡ vec_capacity old.room
-  pub store : IsSome new.store ↔ IsSome old.store
 
 -- a record kept what the journal of a domain of this number gained: pieces up to the mark that the record has now, and
 -- the last of them leaves room, unless there may be more. What is whole of the record gained exactly the lines of their
@@ -25,7 +24,7 @@ pub record KeepsGained {S : Type 0} {g : _} (whole : S → Option (List ℕ)) (p
   pub beginning : IsBeginning anew old.mark from
   pub gained : AreGained plan number (vec_capacity old.room) from pieces new.mark
   pub last : more ≡ false → number < length plan → EndWithRoom (vec_capacity old.room) pieces
-  pub text : IsWritten anew (string_bytes old.head) (stored_text whole old.store) (stored_text whole new.store)
+  pub text : IsWritten anew (string_bytes old.head) (whole old.store) (whole new.store)
       (record_text (lines_of (entries_of pieces)))
   pub commands :
       new.commands ≡ saturated ((if anew then 0 else old.commands) + commands_among (entries_of pieces))
@@ -38,7 +37,7 @@ pub record StillOwes {S : Type 0} {g : _} (whole : S → Option (List ℕ)) (ane
   pub owed : new.owes_next ≡ true
   pub mark : new.mark ≡ old.mark
   pub commands : new.commands ≡ old.commands
-  pub text : stored_text whole new.store ≡ stored_text whole old.store
+  pub text : whole new.store ≡ whole old.store
 
 -- after an error nothing that the journal gained is left out and nothing is there twice: the record kept some pieces
 -- whole, and the mark is after them, or the next record is still owed

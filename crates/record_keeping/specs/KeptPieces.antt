@@ -6,7 +6,6 @@ use Rattle.farm_records.specs.RecordText.{record_text, lines_of}
 use Rattle.record_keeping.specs.declared.domain_record.DomainRecord.{DomainRecord}
 use Rattle.record_keeping.specs.Counts.{commands_among, saturated}
 use Rattle.record_keeping.specs.Pieces.{JournalPiece, entries_of, AreGained, EndWithRoom}
-use Rattle.record_keeping.specs.Writing.{stored_text}
 
 -- a record kept pieces and counted their commands, and the last of them leaves room, unless there may be more
 pub record KeepsPieces {S : Type 0} {g : _} (whole : S → Option (List ℕ)) (plan : List DomainData) (number : ℕ)
@@ -14,7 +13,7 @@ pub record KeepsPieces {S : Type 0} {g : _} (whole : S → Option (List ℕ)) (p
   pub pieces : List JournalPiece
   pub gained : AreGained plan number (vec_capacity old.room) old.mark pieces new.mark
   pub last : more ≡ false → number < length plan → EndWithRoom (vec_capacity old.room) pieces
-  pub text : Appends (stored_text whole old.store) (stored_text whole new.store)
+  pub text : Appends (whole old.store) (whole new.store)
       (record_text (lines_of (entries_of pieces)))
   pub commands : new.commands ≡ saturated (old.commands + commands_among (entries_of pieces))
 
@@ -23,4 +22,4 @@ pub record KeepsNothing {S : Type 0} {g : _} (whole : S → Option (List ℕ)) (
     : Type 0 where
   pub mark : new.mark ≡ old.mark
   pub commands : new.commands ≡ old.commands
-  pub text : stored_text whole new.store ≡ stored_text whole old.store
+  pub text : whole new.store ≡ whole old.store

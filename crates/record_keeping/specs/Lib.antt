@@ -1,7 +1,7 @@
 -- what must be believed
-pub mod Writing
 pub mod Pieces
 pub mod Counts
+pub mod Writing
 pub mod Keeping
 -- what only helps contracts
 pub mod Reasons

@@ -1,18 +1,19 @@
 //! The record of a domain, as it is kept between calls.
-ghost use Rattle.std.specs.Prelude.{◌≡◌, ◌<◌, ◌^◌, false, true, None, string_bytes};
+ghost use Rattle.std.specs.Prelude.{◌≡◌, ◌<◌, ◌^◌, false, true, string_bytes};
+ghost use Rattle.std.specs.Option.{ForSome};
 ghost use Rattle.std.proofs.Props.{props};
-ghost use Rattle.record_keeping.specs.Writing.{IsAllWhole, IsJust};
+ghost use Rattle.record_keeping.specs.Writing.{HoldsCommands, IsAllWhole, IsJust};
 
 use crate::store::RecordStore;
 use domain_core::{Entry, Mark};
 
-/// The record of a domain, or none if nothing is recorded.
+/// The record of a domain.
 pub struct DomainRecord<S: RecordStore> {
-    pub(crate) store: Option<S>,
+    pub(crate) store: S,
     pub(crate) head: String,
     // How far the journal is recorded.
     pub(crate) mark: Mark,
-    // How many commands of users the record has since its journal began.
+    // How many commands of users the record has since its journal began. The lines of a text that is known have as many.
     pub(crate) commands: u64,
     // Reserved, for what the journal gained.
     pub(crate) room: Vec<Entry>,
@@ -28,8 +29,8 @@ pub struct DomainRecord<S: RecordStore> {
     ghost in_range: { commands < 2 ^ 64 },
     ghost ready: { failed ≡ false → IsAllWhole S.contents S.whole store },
     ghost bare: { is_bare ≡ true → IsJust S.whole store (string_bytes head) } by { Prim.hlevel props },
-    ghost nothing: { store ≡ None → (failed ≡ false) × (is_out ≡ false) },
     ghost out: { is_out ≡ true → (failed ≡ true) × (owes_next ≡ true) },
+    ghost counted: { owes_next ≡ false → ForSome (S.whole store) (λ held. ∥ HoldsCommands (string_bytes head) commands held ∥₁) },
 }
 
 // Dropped by hand, since a derived `Drop` makes callers prove the drop of each field.

@@ -1,12 +1,12 @@
 //! The record of a domain: an answer is written to it before anybody is given the answer.
-ghost use Rattle.std.specs.Prelude.{◌≡◌, ◌↔◌, ◌<◌, ◌≤◌, ◌+◌, ◌^◌, ◌||◌, ◌&&◌, [], ◌∷◌, false, true, not, None, Some, Ok, IfOk, OnOk, OnErr, IsErr, IsTrue, IsSome, IfSome, length, vec_capacity, string_bytes};
+ghost use Rattle.std.specs.Prelude.{◌≡◌, ◌↔◌, ◌<◌, ◌≤◌, ◌+◌, ◌^◌, ◌||◌, ◌&&◌, ◌++◌, [], ◌∷◌, false, true, not, IfOk, OnOk, OnErr, IsErr, IsTrue, IfSome, length, vec_capacity, string_bytes};
 ghost use Rattle.std.specs.Io.KnownBytes.{Appends};
 ghost use Rattle.farm_records.specs.RecordText.{record_text, lines_of};
 ghost use Rattle.record_keeping.specs.Counts.{commands_among, saturated, IsCountBefore};
 ghost use Rattle.record_keeping.specs.Keeping.{KeepsGained, KeepsSome, IsSameRecord};
 ghost use Rattle.record_keeping.specs.KeptPieces.{KeepsPieces, KeepsNothing};
 ghost use Rattle.record_keeping.specs.Pieces.{IsAtStart};
-ghost use Rattle.record_keeping.specs.Writing.{Becomes, stored_text, IsAllWhole};
+ghost use Rattle.record_keeping.specs.Writing.{Becomes, IsAllWhole, IsJust};
 
 use crate::domain_record::DomainRecord;
 use crate::store::{NotKept, RecordStore};
@@ -94,24 +94,6 @@ fn end_of(journal: &Journal, room: &mut Vec<Entry>) -> Reached
 }
 
 impl<S: RecordStore> DomainRecord<S> {
-    /// Nothing is recorded.
-    pub fn none(alloc: Global) -> DomainRecord<S>
-        ensures store { result.store ≡ None }
-    {
-        DomainRecord {
-            store: None,
-            head: String::new(alloc),
-            mark: Mark::start(),
-            commands: 0,
-            room: Vec::new(alloc),
-            text: String::new(alloc),
-            failed: false,
-            owes_next: false,
-            is_out: false,
-            is_bare: false,
-        }
-    }
-
     /// A store that holds this head, and after it what this journal has. The record counts the commands of the journal.
     // Seven clauses: what the store holds, and with what the record begins.
     pub fn of(
@@ -121,8 +103,8 @@ impl<S: RecordStore> DomainRecord<S> {
         journal: &Journal,
     ) -> Result<DomainRecord<S>, NoMemory>
         requires whole { S.whole store ≡ S.contents store }
-        requires bare { journal.now.entries ≡ [] → IfSome (S.contents store) (λ held. held ≡ string_bytes head) }
-        ensures store { IfOk result (λ opened. opened.store ≡ Some store) }
+        requires lines { IfSome (S.contents store) (λ held. held ≡ string_bytes head ++ record_text (lines_of journal.now.entries)) }
+        ensures store { IfOk result (λ opened. opened.store ≡ store) }
         ensures head { IfOk result (λ opened. opened.head ≡ head) }
         ensures places { IfOk result (λ opened. vec_capacity opened.room ≡ PIECE) }
         ensures commands { IfOk result (λ opened. IsCountBefore journal.now.entries opened.mark opened.commands) }
@@ -131,7 +113,7 @@ impl<S: RecordStore> DomainRecord<S> {
         let mut room = Vec::with_capacity(alloc, PIECE)?;
         let Reached { mark, commands } = end_of(journal, &mut room);
         Ok(DomainRecord {
-            store: Some(store),
+            store,
             head,
             mark,
             commands,
@@ -146,14 +128,14 @@ impl<S: RecordStore> DomainRecord<S> {
 
     /// A store whose record can't be taken, for a domain with this head: nothing is recorded until its journal begins again.
     pub fn out(alloc: Global, store: S, head: String) -> Result<DomainRecord<S>, NoMemory>
-        ensures store { IfOk result (λ opened. opened.store ≡ Some store) }
+        ensures store { IfOk result (λ opened. opened.store ≡ store) }
         ensures head { IfOk result (λ opened. opened.head ≡ head) }
         ensures places { IfOk result (λ opened. vec_capacity opened.room ≡ PIECE) }
         ensures out { IfOk result (λ opened. opened.is_out ≡ true) }
     {
         let room = Vec::with_capacity(alloc, PIECE)?;
         Ok(DomainRecord {
-            store: Some(store),
+            store,
             head,
             mark: Mark::start(),
             commands: 0,
@@ -166,31 +148,31 @@ impl<S: RecordStore> DomainRecord<S> {
         })
     }
 
-    // Writes the lines of the entries that are in the room, if there are any.
-    // Eight clauses: a record that is written to, as in all that follow, what is whole then or after an error, and what stays.
+    // Writes the lines of the entries that are in the room, if there are any, and counts their commands.
+    // Nine clauses: a record that is written to, as in all that follow, what is whole then or after an error, and what stays.
     fn write_room(&mut self) -> Result<(), NotKept>
-        requires store { IsSome self.old.store }
         requires ready { IsAllWhole S.contents S.whole self.old.store }
         requires failed { self.old.failed ≡ true }
-        ensures text { OnOk result (Appends (stored_text S.whole self.old.store) (stored_text S.whole self.new.store)
+        ensures text { OnOk result (Appends (S.whole self.old.store) (S.whole self.new.store)
             (record_text (lines_of self.old.room.items))) }
         ensures ready { OnOk result (IsAllWhole S.contents S.whole self.new.store) }
-        ensures err { OnErr result (stored_text S.whole self.new.store ≡ stored_text S.whole self.old.store) }
+        ensures err { OnErr result (S.whole self.new.store ≡ S.whole self.old.store) }
         ensures same { IsSameRecord self.old self.new }
+        ensures commands { OnOk result (self.new.commands ≡ saturated (self.old.commands + commands_among self.old.room.items)) }
+        ensures stays { OnErr result (self.new.commands ≡ self.old.commands) }
         ensures rest { (self.new.mark ≡ self.old.mark) × (self.new.room ≡ self.old.room) × (self.new.failed ≡ self.old.failed)
-            × (self.new.owes_next ≡ self.old.owes_next) × (self.new.is_out ≡ self.old.is_out)
-            × (self.new.commands ≡ self.old.commands) }
+            × (self.new.owes_next ≡ self.old.owes_next) × (self.new.is_out ≡ self.old.is_out) }
     {
+        // Entries stand for what the one and then the others stand for.
+        journals_add_up();
         if self.room.is_empty() {
             return Ok(());
         }
-        let Some(store) = &mut self.store else {
-            unreachable!()
-        };
         self.text.clear();
         write_records_of(&mut self.text, self.room.as_slice())?;
-        store.append(self.text.as_str())?;
+        self.store.append(self.text.as_str())?;
         self.is_bare = false;
+        self.commands = count_with(self.commands, self.room.as_slice());
         Ok(())
     }
 
@@ -201,16 +183,15 @@ impl<S: RecordStore> DomainRecord<S> {
         !self.room.is_empty() && self.room.len() == self.room.capacity()
     }
 
-    // Records the next piece that the journal gained, and counts its commands; whether there may be more. After an error nothing
+    // Records the next piece that the journal gained; whether there may be more. After an error nothing
     // of it is whole.
-    // Eight clauses: a record that is written to, what is kept then or after an error, and what stays.
+    // Seven clauses: a record that is written to, what is kept then or after an error, and what stays.
     fn keep_piece<R: Wait>(
         &mut self,
         rt: &R,
         service: &Service,
         domain: u8,
     ) -> Result<bool, NotKept>
-        requires store { IsSome self.old.store }
         requires ready { IsAllWhole S.contents S.whole self.old.store }
         requires failed { self.old.failed ≡ true }
         ensures kept { IfOk result (λ more. KeepsPieces S.whole service.now.plan domain more self.old self.new) }
@@ -225,7 +206,6 @@ impl<S: RecordStore> DomainRecord<S> {
         };
         self.write_room()?;
         self.mark = mark;
-        self.commands = count_with(self.commands, self.room.as_slice());
         Ok(self.is_room_full())
     }
 
@@ -237,7 +217,7 @@ impl<S: RecordStore> DomainRecord<S> {
     }
 
     // Records all that the journal has gained by now, and at least this number of commands in all.
-    // Nine clauses: a record that is written to, what is kept then or after an error, and what stays.
+    // Eight clauses: a record that is written to, what is kept then or after an error, and what stays.
     fn keep_gained<R: Wait>(
         &mut self,
         rt: &R,
@@ -245,7 +225,6 @@ impl<S: RecordStore> DomainRecord<S> {
         domain: u8,
         asked: u64,
     ) -> Result<(), NotKept>
-        requires store { IsSome self.old.store }
         requires ready { IsAllWhole S.contents S.whole self.old.store }
         requires failed { self.old.failed ≡ true }
         ensures kept { OnOk result (KeepsPieces S.whole service.now.plan domain false self.old self.new) }
@@ -267,16 +246,17 @@ impl<S: RecordStore> DomainRecord<S> {
     }
 
     // Begins the next record. One that holds its head alone serves again.
-    // Nine clauses: a record that is written to and not out, what is whole then or after an error, and what stays.
+    // Ten clauses: a record that is written to and not out, what is whole then or after an error, and what stays.
     fn renew(&mut self) -> Result<(), NotKept>
-        requires store { IsSome self.old.store }
         requires ready { IsAllWhole S.contents S.whole self.old.store }
         requires failed { self.old.failed ≡ true }
         requires out { self.old.is_out ≡ false }
-        ensures text { OnOk result (Becomes (stored_text S.whole self.old.store) (stored_text S.whole self.new.store)
+        requires owed { self.old.owes_next ≡ true }
+        ensures text { OnOk result (Becomes (S.whole self.old.store) (S.whole self.new.store)
             (string_bytes self.old.head)) }
+        ensures alone { OnOk result (IsJust S.whole self.new.store (string_bytes self.old.head)) }
         ensures ready { OnOk result (IsAllWhole S.contents S.whole self.new.store) }
-        ensures err { OnErr result (stored_text S.whole self.new.store ≡ stored_text S.whole self.old.store) }
+        ensures err { OnErr result (S.whole self.new.store ≡ S.whole self.old.store) }
         ensures same { IsSameRecord self.old self.new }
         ensures rest { (self.new.mark ≡ self.old.mark) × (self.new.commands ≡ self.old.commands)
             × (self.new.failed ≡ self.old.failed) × (self.new.owes_next ≡ self.old.owes_next) × (self.new.is_out ≡ self.old.is_out) }
@@ -284,10 +264,7 @@ impl<S: RecordStore> DomainRecord<S> {
         if self.is_bare {
             return Ok(());
         }
-        let Some(store) = &mut self.store else {
-            unreachable!()
-        };
-        store.begin_next(self.head.as_str())?;
+        self.store.begin_next(self.head.as_str())?;
         self.is_bare = true;
         Ok(())
     }
@@ -295,12 +272,12 @@ impl<S: RecordStore> DomainRecord<S> {
     // Begins the next record, for a journal that began again.
     // Eleven clauses: a record that is written to and not out, what is begun then or after an error, and what stays.
     fn begin_next(&mut self) -> Result<(), NotKept>
-        requires store { IsSome self.old.store }
         requires ready { IsAllWhole S.contents S.whole self.old.store }
         requires failed { self.old.failed ≡ true }
         requires out { self.old.is_out ≡ false }
+        requires owed { self.old.owes_next ≡ true }
         ensures mark { OnOk result (IsAtStart self.new.mark × (self.new.commands ≡ 0)) }
-        ensures text { OnOk result (Becomes (stored_text S.whole self.old.store) (stored_text S.whole self.new.store)
+        ensures text { OnOk result (Becomes (S.whole self.old.store) (S.whole self.new.store)
             (string_bytes self.old.head)) }
         ensures begun { OnOk result (self.new.owes_next ≡ false) }
         ensures ready { OnOk result (IsAllWhole S.contents S.whole self.new.store) }
@@ -317,7 +294,7 @@ impl<S: RecordStore> DomainRecord<S> {
 
     // Begins the next record if it is owed, and records all that the journal has gained by now, and at least this number of
     // commands in all.
-    // Ten clauses: a record that is written to and not out, what is kept then or after an error, and what stays.
+    // Nine clauses: a record that is written to and not out, what is kept then or after an error, and what stays.
     fn keep_owed<R: Wait>(
         &mut self,
         rt: &R,
@@ -325,7 +302,6 @@ impl<S: RecordStore> DomainRecord<S> {
         domain: u8,
         asked: u64,
     ) -> Result<(), NotKept>
-        requires store { IsSome self.old.store }
         requires ready { IsAllWhole S.contents S.whole self.old.store }
         requires failed { self.old.failed ≡ true }
         requires out { self.old.is_out ≡ false }
@@ -343,24 +319,19 @@ impl<S: RecordStore> DomainRecord<S> {
     }
 
     // Cuts off what isn't whole.
-    // Six clauses: a record that failed, what is whole then, and what stays.
     fn cut_back(&mut self) -> Result<(), NotKept>
-        requires store { IsSome self.old.store }
         requires failed { self.old.failed ≡ true }
         ensures ready { OnOk result (IsAllWhole S.contents S.whole self.new.store) }
         ensures stays { KeepsNothing S.whole self.old self.new × (self.new.owes_next ≡ self.old.owes_next) }
         ensures same { IsSameRecord self.old self.new }
         ensures rest { (self.new.failed ≡ self.old.failed) × (self.new.is_out ≡ self.old.is_out) }
     {
-        let Some(store) = &mut self.store else {
-            unreachable!()
-        };
-        store.cut_back()?;
+        self.store.cut_back()?;
         Ok(())
     }
 
     // Cuts off what isn't whole, and records what isn't recorded, and at least this number of commands in all.
-    // Nine clauses: a record that failed and isn't out, what is kept then or after an error, and what stays.
+    // Eight clauses: a record that failed and isn't out, what is kept then or after an error, and what stays.
     fn mend_and_keep<R: Wait>(
         &mut self,
         rt: &R,
@@ -368,7 +339,6 @@ impl<S: RecordStore> DomainRecord<S> {
         domain: u8,
         asked: u64,
     ) -> Result<(), NotKept>
-        requires store { IsSome self.old.store }
         requires failed { self.old.failed ≡ true }
         requires out { self.old.is_out ≡ false }
         ensures kept { OnOk result (KeepsGained S.whole service.now.plan domain self.old.owes_next false self.old self.new) }
@@ -384,14 +354,14 @@ impl<S: RecordStore> DomainRecord<S> {
 
     /// Records all that the domain has answered by now, in the next record if its journal began again. A record that holds
     /// no line is used again then. `asked` is how many commands the domain's users were answered since its journal began: the
-    /// call goes on until the record has as many. Where nothing is recorded, nothing changes.
+    /// call goes on until the record has as many.
     ///
     /// # Errors
     ///
     /// `Out` if the domain's record can't be taken, as long as its journal doesn't begin again; nothing has changed then.
     /// Else why it can't be written: what was recorded by then stays, and the next call cuts off what isn't whole and goes
     /// on after what is, so that nothing is missing and nothing is there twice.
-    // Nine clauses: what is kept then or after an error, of no store, of a record that is out, and what stays.
+    // Eight clauses: what is kept then or after an error, of a record that is out, and what stays.
     pub fn keep<R: Wait>(
         &mut self,
         rt: &R,
@@ -400,20 +370,15 @@ impl<S: RecordStore> DomainRecord<S> {
         begins_anew: bool,
         asked: u64,
     ) -> Result<(), NotKept>
-        ensures kept { OnOk result (IsSome self.old.store
-            → KeepsGained S.whole service.now.plan domain (self.old.owes_next || begins_anew) false self.old self.new) }
-        ensures has_all { OnOk result (IsSome self.old.store → asked ≤ self.new.commands) }
+        ensures kept { OnOk result (KeepsGained S.whole service.now.plan domain (self.old.owes_next || begins_anew) false self.old self.new) }
+        ensures has_all { OnOk result (asked ≤ self.new.commands) }
         ensures all { OnOk result (IsAllWhole S.contents S.whole self.new.store) }
         ensures err { OnErr result (KeepsSome S.whole service.now.plan domain (self.old.owes_next || begins_anew) self.old self.new) }
-        ensures none { self.old.store ≡ None → (result ≡ Ok tt) × (self.new ≡ self.old) }
         ensures failed { IsTrue self.new.failed ↔ IsErr result }
         ensures out { self.new.is_out ≡ (self.old.is_out && not begins_anew) }
         ensures still_out { IsTrue self.new.is_out → IsErr result × (self.new ≡ self.old) }
         ensures same { IsSameRecord self.old self.new }
     {
-        if self.store.is_none() {
-            return Ok(());
-        }
         if self.is_out && !begins_anew {
             return Err(NotKept::Out);
         }
@@ -429,20 +394,14 @@ impl<S: RecordStore> DomainRecord<S> {
         Ok(())
     }
 
-    /// How many bytes of the record that is written to are whole; none if nothing is recorded.
+    /// How many bytes of the record that is written to are whole.
     pub fn bytes(&self) -> u64 {
-        match &self.store {
-            Some(store) => store.bytes(),
-            None => 0,
-        }
+        self.store.bytes()
     }
 
     /// How many bytes the older records of the domain take.
     pub fn older_bytes(&self) -> u64 {
-        match &self.store {
-            Some(store) => store.older_bytes(),
-            None => 0,
-        }
+        self.store.older_bytes()
     }
 
     /// Removes the oldest record of the domain, but never the one that is written to. Returns where it was, or `None` if there is
@@ -452,15 +411,12 @@ impl<S: RecordStore> DomainRecord<S> {
     ///
     /// The system's. All records stay.
     pub fn remove_oldest(&mut self) -> io::Result<Option<String>>
-        ensures text { stored_text S.whole self.new.store ≡ stored_text S.whole self.old.store }
+        ensures text { S.whole self.new.store ≡ S.whole self.old.store }
         ensures mark { (self.new.mark ≡ self.old.mark) × (self.new.commands ≡ self.old.commands) }
         ensures rest { (self.new.failed ≡ self.old.failed) × (self.new.owes_next ≡ self.old.owes_next) × (self.new.is_out ≡ self.old.is_out) }
         ensures same { IsSameRecord self.old self.new }
     {
-        match &mut self.store {
-            Some(store) => store.remove_oldest(),
-            None => Ok(None),
-        }
+        self.store.remove_oldest()
     }
 
     /// Whether something isn't recorded.
@@ -477,12 +433,12 @@ impl<S: RecordStore> DomainRecord<S> {
         self.is_out
     }
 
-    /// Where the record is that is written to, or that will be if the next one is to be begun; nowhere if nothing is recorded.
-    pub fn path(&self, alloc: Global) -> Result<Option<String>, NoMemory> {
-        match &self.store {
-            Some(store) if self.owes_next => Ok(Some(store.next_path(alloc)?)),
-            Some(store) => Ok(Some(store.path(alloc)?)),
-            None => Ok(None),
+    /// Where the record is that is written to, or that will be if the next one is to be begun.
+    pub fn path(&self, alloc: Global) -> Result<String, NoMemory> {
+        if self.owes_next {
+            self.store.next_path(alloc)
+        } else {
+            self.store.path(alloc)
         }
     }
 }

@@ -29,6 +29,7 @@ pub trait RecordStore: Drop {
     fn append(&mut self, lines: &str) -> io::Result<()>
         ensures gained { OnOk result (Appends (contents self.old) (contents self.new) lines.now) }
         ensures all { OnOk result (whole self.new ≡ contents self.new) }
+        ensures unknown { whole self.old ≡ None → whole self.new ≡ None }
         ensures err { OnErr result (whole self.new ≡ whole self.old) };
 
     /// Begins the next record of the domain, which holds this head alone.

@@ -1,5 +1,5 @@
 use Rattle.std.proofs.Common.{◌≡◌, map, take}
-use Rattle.live_farm.specs.FarmUsers.{user_number_of}
+use Rattle.live_farm.specs.Names.{user_number_of}
 use Rattle.live_farm.proofs.farm_users.are_of.Given as goal
 
 -- the passes so far are of these users

@@ -1,6 +1,6 @@
 use Rattle.std.proofs.Common.{◌≡◌, ◌++◌, Some, map}
 use Rattle.plan_rules.specs.Users.{name_at}
-use Rattle.live_farm.specs.FarmUsers.{user_number_of}
+use Rattle.live_farm.specs.Names.{user_number_of}
 use Rattle.live_farm.proofs.farm_users.join_all.Given as goal
 
 -- the users so far have joined

@@ -4,7 +4,7 @@ use Rattle.whole_farm.specs.Places.{places_of}
 use Rattle.farm_service.specs.declared.closed.Closed.{Closed}
 use Rattle.farm_service.specs.Closed.{EachMergeRuns}
 use Rattle.farm_service.specs.Passes.{fresh_passes}
-use Rattle.live_farm.specs.FarmUsers.{user_number_of}
+use Rattle.live_farm.specs.Names.{user_number_of}
 use Rattle.live_farm.proofs.Closings.{same_users, all_listed_of, all_kept_of}
 use Rattle.live_farm.proofs.program.run_live.Goals as goal
 

@@ -7,13 +7,14 @@ pub returns : goal.returns
 returns g c = record {
   domain = c.requires.status.0;
   status = c.args.status;
+  mark = c.apply_journal.new.self.mark;
   moment = c.apply_journal.new.self.replayed;
   room = c.bytes-room.result;
   causes = c.as_str.result.now;
   found = c.requires.status.1;
   status_of = c.requires.status.2;
   recorded = c.requires.status.3;
-  reached = c.in_ok-apply_journal.ensures;
+  followed = c.in_ok-apply_journal.ensures;
   explained =
       subst (λ (t : List ℕ). IsExplained c.apply_journal.new.self.replayed c.args.node t)
       (sym c.as_str.ensures.value) c.in_ok-causes.ensures;

@@ -1,7 +1,6 @@
-use Rattle.std.proofs.Common.{rules, ◌≡◌, ◌<◌, subst, List, [], ◌∷◌, ℕ, length, vec_capacity}
+use Rattle.std.proofs.Common.{rules, refl, ◌≡◌, ◌<◌, subst, List, [], ◌∷◌, ℕ, length, vec_capacity}
 use Rattle.std.specs.Io.KnownBytes.{Appends}
 use Rattle.record_keeping.specs.Pieces.{JournalPiece}
-use Rattle.record_keeping.specs.Writing.{stored_text}
 use Rattle.record_keeping.proofs.Pieces.{one_gained, text_of_one, counted_one}
 use Rattle.record_keeping.proofs.domain_record.DomainRecord.keep_piece.Goals as goal
 
@@ -24,9 +23,9 @@ returns-clause-kept g c =
           c.is_room_full.ensures few (λ none. some (search rules)) in
           search rules;
       text =
-          subst (λ (text : List ℕ). Appends (stored_text whole old.store) (stored_text whole written.store) text)
+          subst (λ (text : List ℕ). Appends (whole old.store) (whole written.store) text)
           (text_of_one piece) c.in_ok-write_room.ensures.text;
       commands =
-          counted_one piece c.as_slice.result.now written.commands old.commands c.count_with-self.result
-          c.count_with-self.ensures c.in_ok-write_room.ensures.rest.5 (search rules);
+          counted_one piece written.room.items old.commands old.commands written.commands (search rules) refl
+          (search rules);
     }
