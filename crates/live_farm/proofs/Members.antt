@@ -1,5 +1,5 @@
 -- What holds of each member of a list by its place: the invariants `theirs` and `named` of `UserGroup`.
-use Rattle.std.proofs.Common.{◌≡◌, ◌<◌, ℕ, zero, suc, List, [], ◌∷◌, ◌++◌, Some, Ok, Err, length, map, set, slice_get, refl, sym, subst, ap, ◌∙◌, arith}
+use Rattle.std.proofs.Common.{◌≡◌, ◌<◌, ℕ, zero, suc, List, [], ◌∷◌, ◌++◌, Some, Ok, Err, length, map, set, take, slice_get, refl, sym, subst, ap, ◌∙◌, arith}
 use Rattle.std.specs.Prelude.{IfOk, IfErr, Result}
 use Rattle.domain_core.specs.declared.event.Refusal.{Refusal}
 use Rattle.domain_core.specs.declared.event.Refusal.TheVariants.{NoSuch}
@@ -41,6 +41,26 @@ pub each_map : {A B : Type 0} (P : ℕ → B → Type 0) (f : A → B) (xs : Lis
 each_map P f [] each k b is = absurd cc
 each_map P f (x ∷ xs) each zero b is = let same : f x ≡ b = cc in subst (λ v. P 0 v) same (each 0 x refl)
 each_map P f (x ∷ xs) each (suc k) b is = each_map (λ n v. P (suc n) v) f xs (λ n v. each (suc n) v) k b is
+
+-- a list and anything after it has the list as its beginning
+pub take_front : {A : Type 0} (n : ℕ) (xs ys : List A) → length xs ≡ n → take n (xs ++ ys) ≡ xs
+take_front zero [] ys is = refl
+take_front zero (x ∷ xs) ys is = absurd (omega (arith, is))
+take_front (suc n) [] ys is = absurd (omega (arith, is))
+take_front {A = A} (suc n) (x ∷ xs) ys is = ap (λ (l : List A). x ∷ l) (take_front n xs ys (omega (arith, is)))
+
+length_map : {A B : Type 0} (f : A → B) (xs : List A) → length (map f xs) ≡ length xs
+length_map f [] = refl
+length_map f (x ∷ xs) = ap (λ (n : ℕ). suc n) (length_map f xs)
+
+-- there are as many sessions if all begin again, or none does
+pub as_many_after : {A : Type 0} (outcome : Result A Refusal) (old new : List SessionValue)
+    → IfOk outcome (λ _. new ≡ map begun_anew old)
+    → IfErr outcome (λ refusal. (refusal ≡ NoSuch) × (new ≡ old))
+    → length new ≡ length old
+as_many_after (Ok x) old new done same =
+    ap (λ (ss : List SessionValue). length ss) done ∙ length_map begun_anew old
+as_many_after (Err e) old new done same = ap (λ (ss : List SessionValue). length ss) same.1
 
 -- sessions stay in order if all begin again, or none does
 pub in_order_after : {A : Type 0} (outcome : Result A Refusal) (number : ℕ) (old new : List SessionValue)

@@ -42,13 +42,13 @@ line_is_whole before after user command text is =
     let line = is.answered.is_line in
     let told = replies_told is.answered.told in
     let shown =
-    is.name.now ++ behind_blank (name_of (verb_of command))
+    is.name ++ behind_blank (name_of (verb_of command))
     ++ option_map_or (λ (p : ℕ). behind_blank (decimal p)) (target_asked command) []
     ++ outcome_text command told line.result in
-    let ended : is_ended (line_text is.name.now command told line.result) ≡ true =
+    let ended : is_ended (line_text is.name command told line.result) ≡ true =
     ended_behind shown (codes "\n") refl in
     subst (λ (t : List ℕ). are_lines t ≡ true) (sym (is.answered.text ∙ line.is_text))
-    (ended_lines (line_text is.name.now command told line.result) ended)
+    (ended_lines (line_text is.name command told line.result) ended)
 
 -- ---- a writer
 

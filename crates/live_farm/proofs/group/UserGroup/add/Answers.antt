@@ -1,5 +1,6 @@
 use Rattle.std.proofs.Common.{◌≡◌, ◌++◌, ℕ, List, [], ◌∷◌, Some, length, subst, sym, ap, ◌∙◌, rules}
 use Rattle.std.specs.Borrow.{Bor}
+use Rattle.plan_rules.specs.Data.{DomainData}
 use Rattle.plan_rules.specs.Users.{name_at}
 use Rattle.plan_rules.specs.declared.users.UserNumber.{UserNumber}
 use Rattle.farm_service.specs.Passes.{SessionValue}
@@ -22,6 +23,9 @@ invariant_of-self-2 c =
     let user : number.user ≡ length names = search rules in
     let whose : record { domain = group.domain; user = length names } ≡ number =
     λ k. record { domain = sym domain k; user = sym user k } in
+    let of_plan : c.plan.result.now ≡ plan = search rules in
+    let called = subst (λ (p : List DomainData). name_at p number ≡ Some name.now) of_plan c.in-Some.ensures.name in
+    let has_name = λ (k : ℕ) (n : Bor (List ℕ)). name_at plan (record { domain = group.domain; user = k }) ≡ Some n.now in
     record {
       as_many = search rules;
       there = group.there;
@@ -30,6 +34,5 @@ invariant_of-self-2 c =
           (in_order_more group.domain sessions c.session.result (search rules) (search rules) group.theirs);
       named =
           subst (λ (ns : List (Bor (List ℕ))). AreTheirNames plan group.domain ns) (sym longer)
-          (each_more (λ (k : ℕ) (n : Bor (List ℕ)). name_at plan (record { domain = group.domain; user = k }) ≡ Some n.now)
-          names name group.named (ap (λ (of : UserNumber). name_at plan of) whose ∙ c.in-Some.ensures.name));
+          (each_more has_name names name group.named (ap (λ (of : UserNumber). name_at plan of) whose ∙ called));
     }

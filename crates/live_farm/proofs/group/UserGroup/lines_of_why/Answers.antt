@@ -11,7 +11,7 @@ returns g c =
     search rules in
     IfOk-weaker c.no_node_answer.result _ _
     (λ a is. (
-      c.name-name.result,
+      c.name-name.result.now,
       c.name-name.ensures,
       inr (inl (subst (λ (n : Option ℕ). LacksNode group n name (string_bytes a.text)) (sym c.in-Some.is) (lacks, is))),
     ))
@@ -20,10 +20,10 @@ returns g c =
 pub returns-in-Ok : goal.returns-in-Ok
 returns-in-Ok g c =
     IfOk-weaker c.why_answer.result _ _
-    (λ a is. (c.name-name.result, c.name-name.ensures, inl (c.as_str.result.now, search rules, is)))
+    (λ a is. (c.name-name.result.now, c.name-name.ensures, inl (c.as_str.result.now, search rules, is)))
     c.why_answer.ensures
 
 pub returns-in-Err : goal.returns-in-Err
 returns-in-Err g c =
-    IfOk-weaker c.error_answer.result _ _ (λ a is. (c.name-name.result, c.name-name.ensures, inr (inr is)))
+    IfOk-weaker c.error_answer.result _ _ (λ a is. (c.name-name.result.now, c.name-name.ensures, inr (inr is)))
     c.error_answer.ensures
