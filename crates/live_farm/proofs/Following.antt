@@ -32,7 +32,8 @@ calls_more pieces last =
 -- what was copied to empty room is followed up to a number of events
 pub followed_more : MomentsGoOn
     → (plan : List DomainData) (number : ℕ) (mark reached : Mark) (held places most : ℕ)
-    (old new shown : List Entry) (m n : MomentValue) → old ≡ [] → held ≡ 0 → shown ≡ new → GainsCopies plan number mark reached old new held places
+    (old new shown : List Entry) (m n : MomentValue) → old ≡ [] → held ≡ 0 → shown ≡ new
+    → GainsCopies plan number mark reached old new held places
     → IsFollowed plan number mark m → MovesOn m (calls_before most m (entry_calls shown)) n
     → IsFollowed plan number reached n
 followed_more law plan number mark reached held places most old new shown m n none nothing same copies before on =

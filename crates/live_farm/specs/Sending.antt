@@ -1,14 +1,11 @@
 -- What is sent of a line that was read.
-use Rattle.std.specs.Prelude.{◌<◌, ⊤, ℕ, List}
-use Rattle.script_text.specs.declared.input_line.InputLine.{InputLine}
-use Rattle.script_text.specs.InputLines.{IsNextLine}
+use Rattle.std.specs.Prelude.{◌<◌, ⊤, ℕ}
 use Rattle.live_lines.specs.declared.asked.OperatorRequest.{OperatorRequest}
 use Rattle.live_lines.specs.declared.asked.OperatorRequest.TheVariants as operator
 use Rattle.live_farm.specs.declared.fate.LineFate.{LineFate}
 use Rattle.live_farm.specs.declared.fate.LineFate.TheVariants as fate
 use Rattle.live_farm.specs.declared.queued.QueuedRequest.{QueuedRequest}
 use Rattle.live_farm.specs.declared.queued.QueuedRequest.TheVariants as line
-use Rattle.live_farm.specs.Fates.{IsFate}
 
 -- what a call of who takes lines says of a user's place among all, of a line's number, and of a request
 abbrev pub SenderSays : Type 0 → Type 1
@@ -29,12 +26,3 @@ IsFateSent was_sent sender count number (fate.Refused user w) =
 IsFateSent was_sent sender count number (fate.Operator request) =
     IsOperatorsSent was_sent sender count number request
 IsFateSent was_sent sender count number other = ⊤
-
--- the next line of a text was read, of this number of bytes at the most, and was sent as it asks
-pub record IsNextSent {U : Type 0} (was_sent : SenderSays U) (sender : U) (names : List (List ℕ))
-    (count most number : ℕ) (text : List ℕ) : Type 0 where
-  pub read : InputLine
-  pub fate : LineFate
-  pub next : IsNextLine text most read
-  pub becomes : IsFate names read fate
-  pub sent : IsFateSent was_sent sender count number fate

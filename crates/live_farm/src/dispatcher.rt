@@ -1,6 +1,6 @@
 //! Who reads the lines: users' lines go to the threads of their domains, and the operator's are answered here.
-ghost use Rattle.std.specs.Prelude.{◌<◌, IfSome, OnOk, length, map};
-ghost use Rattle.live_farm.specs.Sending.{IsOperatorsSent, IsFateSent, IsNextSent};
+ghost use Rattle.std.specs.Prelude.{◌<◌, OnOk, length};
+ghost use Rattle.live_farm.specs.Sending.{IsOperatorsSent, IsFateSent};
 
 use crate::failure::LiveStop;
 use crate::farm_users::FarmUsers;
@@ -159,11 +159,7 @@ impl<U: LineSender> Dispatcher<'_, '_, U> {
         input: &mut I,
         errors: &N,
         number: u64,
-    ) -> Result<ControlFlow<()>, LiveStop>
-        ensures { OnOk result (IfSome (I.remaining input.old)
-            (IsNextSent U.was_sent self.now.sender.now (map (λ n. n.now) self.now.farm_users.now.names.items)
-            (length self.now.farm_users.now.names.items) MOST_LINE_BYTES number)) }
-    {
+    ) -> Result<ControlFlow<()>, LiveStop> {
         let read = match next_line(self.alloc, input, MOST_LINE_BYTES) {
             Ok(read) => read,
             Err(error) => return Err(LiveStop::of_input(&error)),

@@ -1,6 +1,5 @@
 //! A domain's thread: it answers the lines that come to its mailbox.
-ghost use Rattle.std.specs.Prelude.{◌≡◌, ◌<◌, ◌⊎◌, false, length, IfOk, OnOk, string_bytes};
-ghost use Rattle.live_farm.specs.declared.answering.QueuedAnswer.{QueuedAnswer as SpecAnswer};
+ghost use Rattle.std.specs.Prelude.{◌≡◌, ◌<◌, ◌⊎◌, false, length, IfOk, string_bytes};
 ghost use Rattle.live_farm.specs.Asking.{commands_asked};
 ghost use Rattle.live_farm.specs.Groups.{AllStay, AnswersQueued, TellsUnrecorded, TellsFull, may_be_answered};
 
@@ -334,11 +333,6 @@ fn serve_queued<R: Wait, K: SharedRecord, O: SharedOutlet, N: Notices>(
     outlet: &O,
 ) -> Result<(), NoMemory>
     requires { queued.now.user < length group.old.sessions.items }
-    ensures { OnOk result ((a : SpecAnswer) × O.was_put outlet.now (string_bytes a.lines.text)
-        × ((AnswersQueued group.old group.new queued.now a
-        × K.has_kept outputs.now.«record».now group.old.service.now.plan group.old.domain (commands_asked group.new))
-        ⊎ (TellsUnrecorded group.new queued.now (string_bytes a.lines.text)
-        ⊎ (AllStay group.old group.new × TellsFull group.new queued.now (string_bytes a.lines.text))))) }
 {
     let state = state_before(rt, alloc, station, group, outputs)?;
     let has_room = has_room_for(rt, group, queued, station);

@@ -25,7 +25,8 @@ invariant_of-self-2 c =
     λ k. record { domain = sym domain k; user = sym user k } in
     let of_plan : c.plan.result.now ≡ plan = search rules in
     let called = subst (λ (p : List DomainData). name_at p number ≡ Some name.now) of_plan c.in-Some.ensures.name in
-    let has_name = λ (k : ℕ) (n : Bor (List ℕ)). name_at plan (record { domain = group.domain; user = k }) ≡ Some n.now in
+    let has_name =
+    λ (k : ℕ) (n : Bor (List ℕ)). name_at plan (record { domain = group.domain; user = k }) ≡ Some n.now in
     record {
       as_many = search rules;
       there = group.there;
