@@ -10,8 +10,8 @@ use crate::lists::is_listed_in;
 use crate::service::{SeatedDomain, Service};
 use crate::session::Session;
 use crate::waiting::block_forever;
-use domain_core::{Journal, Refusal};
 use domain_core::laws::fitting_stays;
+use domain_core::{Journal, Refusal};
 use plan_rules::AcceptedPlan;
 use std::sync::Wait;
 
