@@ -62,8 +62,12 @@ fn serve<R: Threads + Wait + Sync, I: BufRead + Send, O: SharedOutlet + Sync, N:
             let path = records.path.as_str();
             let folder = RecordFolder::open(files, alloc, path, records.syncs)?;
             let mut histories = Histories::open_within(alloc, plan, room)?;
-            let kept: FileRecords<'_, HostRuntime> =
-                folder.open_records(rt, &mut histories, records.resumes, errors)?;
+            let kept: FileRecords<'_, HostRuntime> = folder.open_records(
+                rt,
+                &mut histories,
+                records.resumes,
+                errors,
+            )?;
             let outputs = LiveOutputs {
                 records: kept.as_slice(),
                 outlet,
