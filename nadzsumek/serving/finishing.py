@@ -26,7 +26,7 @@ from .replacement import Replacement, discard
 from .rooms import shown
 from .sheets import count
 from .supervising import Awaited, tell
-from .upkeep import SAY_SECONDS, Start, Stop, all_done, begin_all, say
+from .upkeep import SAY_SECONDS, Start, Stop, all_done, begin_all, must_all, say
 
 if TYPE_CHECKING:
     from .changing import Change
@@ -34,6 +34,8 @@ if TYPE_CHECKING:
 ENDING = ".tar.xz"
 # What `class`, `serve` and `live` make for themselves, and that is nobody's work.
 OWN = re.compile(r"^((class\.)?lock|pace)$|\.sock$")
+# How long it is waited in any case for a farm that is started again, so that its process has begun.
+BEGIN_SECONDS = 1
 # How much an archive is squeezed, in pieces of so many bytes, of which so many are on their way. Records of thirty students are
 # squeezed in minutes.
 PRESET, SQUEEZED, MOST_PIECES = 1, 1 << 22, min(os.cpu_count() or 1, 8)
@@ -217,16 +219,18 @@ def stopped(change: Change, is_last: bool) -> Iterator[tuple[list[Item], list[St
     starts = [change.start_of(farm, change.kept.farms[farm], Awaited) for farm in up]
     try:
         with undisturbed():
-            if failed := all_done(ended):
-                raise Refused("\n".join(f"{it.name}: {it.told_at_last()}" for it in failed))
+            must_all(ended)
             items = taken(change)
             if not is_last:
                 begin_all(starts)
         yield items, [] if is_last else starts
     except BaseException as error:
         with undisturbed():
-            failed = all_done(starts)
-        told = [f"{it.name}: {it.told_at_last()}" for it in failed]
+            begin_all(starts)
+            for it in starts:
+                it.join(BEGIN_SECONDS)
+        # one more Ctrl-C ends the waiting alone
+        told = [f"{it.name}: {it.told_at_last()}" for it in all_done(starts)]
         if not isinstance(error, OSError | Refused):
             print("".join(f"{escaped(it)}\n" for it in told), end="", file=sys.stderr)
             raise
