@@ -548,7 +548,7 @@ NAMES = {
     "no-letter.txt": "周\n".encode(),
     "good.txt": b"Ada\nBob\n",
 }
-ORDERS = "add, change, check, finish, remove, rename, serve, start, status, stop, verify and wall"
+ORDERS = "add, change, check, exercises, finish, marks, remove, rename, serve, start, status, stop, submitted, verify, wall and web"
 REFUSED = [
     (
         "--students latin.txt --nodes 1 one",

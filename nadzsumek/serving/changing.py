@@ -21,7 +21,7 @@ from .replacement import Replacement, discard, go_back, is_left, mend
 from .sheets import count
 from .status import AGAIN, ask_operator
 from .supervising import Awaited, AwaitedChange, supervisor_of
-from .upkeep import INTERRUPTED, Start, Stop, all_done, say
+from .upkeep import INTERRUPTED, Start, Stop, all_done, must_all, say
 
 if TYPE_CHECKING:
     from .kept import Kept
@@ -271,8 +271,7 @@ class Change:
         with undisturbed():
             try:
                 draft = self.drafted()
-                if failed := all_done([StopForChange(farm, self.course) for farm in stopping]):
-                    raise Refused("\n".join(f"{it.name}: {it.told_at_last()}" for it in failed))
+                must_all([StopForChange(farm, self.course) for farm in stopping])
                 self.apply(draft)
             except (OSError, Refused) as error:
                 self.go_back(stopping, f"{error}")

@@ -309,6 +309,12 @@ def all_done(works: Sequence[Work]) -> list[Work]:
     return [it for it in works if not (it.outcome or (False, ""))[0]]
 
 
+def must_all(works: Sequence[Work]) -> None:
+    """Does works side by side, and refuses to go on if one fails."""
+    if failed := all_done(works):
+        raise Refused("\n".join(f"{it.name}: {it.told_at_last()}" for it in failed))
+
+
 def do_all(works: Sequence[Work]) -> int:
     """Does works side by side, and says what became of each, in their order, and each few seconds what is waited for; the
     status."""
