@@ -46,6 +46,7 @@ ELSEWHERE = """## Rules that one might look for elsewhere
 | what the operator is answered, and with which status a farm ends | `live_farm/src/operator.rt`, `live_farm/src/failure.rt` |
 | the words and the grammar of occam, its names and types: Python | `nadzsumek/occam/` |
 | which word of a refused text is wrong, and what helps: Python | `nadzsumek/mistakes/` |
+| a user's verbs, with their words and an example: Python | `nadzsumek/mistakes/verbs.py` |
 | sockets, terminals, classes and the verbs of scripts: Python | `nadzsumek/serving/`, `nadzsumek/verbs.py` |
 """
 
