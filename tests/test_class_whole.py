@@ -4,6 +4,7 @@ it changes the disk."""
 import json
 import os
 import shutil
+import signal
 import subprocess
 import sys
 import time
@@ -126,3 +127,23 @@ def test_no_farm_starts_half_changed() -> None:
             assert it.ask("eve", "peek 0 80000100\n") == f"peek 0 {WORD}\n"
             it.must("stop")
             assert served.wait(SECONDS) == 0
+
+
+@pytest.mark.long
+def test_no_signal_leaves_a_farm_off() -> None:
+    """Whenever a signal comes to an order of a class that is up, the farm is up soon after it, and the student is there once."""
+    with Recorded() as it:
+        it.must("start")
+        names = ["student-2", "eve"]
+        for step in range(12):
+            call = [f"{TOP}/class", "rename", it.folder, names[0], names[1]]
+            with subprocess.Popen(call, env=it.env, stdout=subprocess.DEVNULL, stderr=subprocess.DEVNULL) as order:
+                time.sleep(0.15 * step)
+                order.send_signal((signal.SIGTERM, signal.SIGHUP, signal.SIGINT)[step % 3])
+                assert order.wait(SECONDS) in (0, 1, 130, -15, -2, -1)
+            end = time.monotonic() + SECONDS
+            while it.ask("student-1", "look 0\n") == "" and time.monotonic() < end:
+                time.sleep(0.1)
+            had = [name for name in names if it.ask(name, "peek 0 80000100\n") == f"peek 0 {WORD}\n"]
+            assert (step, len(had)) == (step, 1)
+            names = had + [name for name in names if name not in had]
