@@ -26,7 +26,7 @@ from .replacement import Replacement, discard
 from .rooms import shown
 from .sheets import count
 from .supervising import Awaited, tell
-from .upkeep import SAY_SECONDS, Start, Stop, all_done, begin_all, must_all, say
+from .upkeep import SAY_SECONDS, Start, Stop, all_done, begin_surely, must_all, say
 
 if TYPE_CHECKING:
     from .changing import Change
@@ -34,8 +34,6 @@ if TYPE_CHECKING:
 ENDING = ".tar.xz"
 # What `class`, `serve` and `live` make for themselves, and that is nobody's work.
 OWN = re.compile(r"^((class\.)?lock|pace)$|\.sock$")
-# How long it is waited in any case for a farm that is started again, so that its process has begun.
-BEGIN_SECONDS = 1
 # How much an archive is squeezed, in pieces of so many bytes, of which so many are on their way. Records of thirty students are
 # squeezed in minutes.
 PRESET, SQUEEZED, MOST_PIECES = 0, 1 << 22, min(os.cpu_count() or 1, 8)
@@ -101,10 +99,8 @@ def taken(change: Change) -> list[Item]:
     draft, top = Replacement(change.course).draft, os.path.dirname(change.course)
     items = []
     for number, path in enumerate(checked(change)):
-        held = os.path.join(draft, f"{number}")
-        if os.path.isdir(path):
-            held = path
-        else:
+        held = path if os.path.isdir(path) else os.path.join(draft, f"{number}")
+        if held != path:
             os.link(path, held, follow_symlinks=False)
         items.append(Item(path, os.path.relpath(path, top), held, os.lstat(held).st_size))
     return items
@@ -153,11 +149,8 @@ def write(items: list[Item], file: IO[bytes]) -> None:
         with tarfile.open(fileobj=cast(IO[bytes], squeezed), mode="w|", bufsize=PIECE) as archive:
             for it in items:
                 info = plain(archive.gettarinfo(it.held, it.name))
-                if info.isdir():
-                    archive.addfile(info)
-                    continue
-                info.size = it.size
-                with open(it.held, "rb") as here:
+                with open(os.devnull if info.isdir() else it.held, "rb") as here:
+                    info.size = 0 if info.isdir() else it.size
                     archive.addfile(info, here)
         squeezed.hand_on(0)
     os.fsync(file.fileno())
@@ -167,6 +160,18 @@ def write(items: list[Item], file: IO[bytes]) -> None:
         for entry, it in zip(archive, items, strict=True):
             if entry.name != it.name or (entry.isfile() and not is_same(archive.extractfile(entry), it, progress)):
                 raise Refused(f"{it.path} isn't in the archive as it is, so nothing is removed")
+
+
+def put_archive(items: list[Item], path: str) -> None:
+    """Writes the archive at a path, whole or not at all."""
+    try:
+        with open(new_file(f"{path}.new", OWN_FILE), "w+b") as file:
+            write(items, file)
+        os.rename(f"{path}.new", path)
+        sync(os.path.dirname(path))
+    finally:
+        with contextlib.suppress(FileNotFoundError):
+            os.unlink(f"{path}.new")
 
 
 def is_same(there: IO[bytes] | None, it: Item, progress: Progress) -> bool:
@@ -229,13 +234,11 @@ def stopped(change: Change, is_last: bool) -> Iterator[tuple[list[Item], list[St
             must_all(ended)
             items = taken(change)
             if not is_last:
-                begin_all(starts)
+                begin_surely(starts)
         yield items, [] if is_last else starts
     except BaseException as error:
         with undisturbed():
-            begin_all(starts)
-            for it in starts:
-                it.join(BEGIN_SECONDS)
+            begin_surely(starts)
         # one more Ctrl-C ends the waiting alone
         told = [f"{it.name}: {it.told_at_last()}" for it in all_done(starts)]
         if not isinstance(error, OSError | Refused):
@@ -267,14 +270,7 @@ def finish(words: list[str]) -> int:
         check_place(change, path)
         users = users_of(change)
         with stopped(change, it.remove) as (items, starts):
-            try:
-                with open(new_file(f"{path}.new", OWN_FILE), "w+b") as file:
-                    write(items, file)
-                os.rename(f"{path}.new", path)
-                sync(os.path.dirname(path))
-            finally:
-                with contextlib.suppress(FileNotFoundError):
-                    os.unlink(f"{path}.new")
+            put_archive(items, path)
             records = sum(os.path.basename(os.path.dirname(item.path)) == "records" for item in items)
             if it.remove:
                 with undisturbed():
