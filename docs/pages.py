@@ -2,7 +2,7 @@
 import re
 
 # The pages in plain words.
-PLAIN_PAGES = ("README.md", "docs/*.md", "docs/guides/*.md")
+PLAIN_PAGES = ("README.md", "crates/README.md", "docs/*.md", "docs/guides/*.md")
 # The page whose rows begin with words that it explains, whatever they are.
 GLOSSARY = "GLOSSARY.md"
 # The words that these pages don't have, each with what to write instead. `stands for` a name or a number is plain.

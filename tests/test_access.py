@@ -685,5 +685,6 @@ def a_class_is_kept(machine):
             "32M",
             "256M",
         ]
-    assert machine.must(f"{THERE}/bin/class", "stop", "/srv/course") == "farm-1: off\nfarm-2: off\n"
+    stopped = machine.must("runuser", "-u", FARM, "--", f"{THERE}/bin/class", "stop", "/srv/course")
+    assert stopped == "farm-1: off\nfarm-2: off\n"
     machine.until("sh", "-c", f"systemctl is-active '{units[0]}' '{units[1]}' || true", starts="inactive\ninactive\n")

@@ -13,7 +13,7 @@ from support.live_lines import SECONDS
 from support.trials import TOP, contents, put, run
 
 # More than is squeezed in a piece, and so much that it takes some seconds: no two of its pieces are the same.
-LONG = 24 << 20
+LONG = 16 << 20
 
 
 @pytest.fixture(name="it")
@@ -77,7 +77,7 @@ def test_a_farm_is_off_for_a_moment(it: Course) -> None:
     while not is_up(it) and time.monotonic() < end:
         time.sleep(0.1)
     assert process.poll() is None
-    assert process.wait(SECONDS) == 0
+    assert process.wait(3 * SECONDS) == 0
     record = "course/farm-1/records/student-1.replay"
     with tarfile.open(f"{it.folder}.tar.xz") as archive:
         long, taken = archive.extractfile("course/sheets/long.bin"), archive.extractfile(record)

@@ -2,12 +2,14 @@
 
 import os
 import re
+import signal
+import subprocess
 import time
 
 import pytest
 from support.courses import Course, ended
 from support.live_lines import SECONDS
-from support.trials import put, text_of
+from support.trials import TOP, put, run, text_of
 
 # A `live` that works before it answers until a file is there, as it does with a long record; and one that does nothing.
 WORKING = """#!/bin/bash
@@ -82,6 +84,33 @@ def test_no_order_stops_a_farm_that_replays(live: str) -> None:
             said = "class: farm-1 does its records again: try again when class status shows that it is up\n"
             assert (done.returncode, done.stderr, it.lock(1)) == (1, said, serving)
         assert text_of(f"{it.folder}/class.json") == kept
+
+
+@pytest.mark.parametrize("how", [signal.SIGTERM, signal.SIGHUP, signal.SIGKILL])
+def test_an_order_that_is_ended_while_it_waits_is_done(live: str, how: signal.Signals) -> None:
+    """If a rename is ended while its farm comes up, by a closed terminal or otherwise, the student has the new name and all that was
+    done. The next order leaves nothing of it, and all but a kill is told."""
+    with Course(2) as it:
+        it.must("start")
+        for line in ("join 0 1", "poke 0 80000100 12345678"):
+            assert run([f"{TOP}/connect", it.folder, "student-2", "-c", line], more=it.env).status == 0
+        held(it, IDLE, live)
+        call = [f"{TOP}/class", "rename", it.folder, "student-2", "Eve"]
+        with subprocess.Popen(call, env=it.env, stdout=subprocess.PIPE, stderr=subprocess.STDOUT) as order:
+            end = time.monotonic() + SECONDS
+            while not os.path.exists(f"{it.folder}/class.done") and time.monotonic() < end:
+                time.sleep(0.05)
+            time.sleep(1)
+            order.send_signal(how)
+            said = order.communicate(timeout=SECONDS)[0]
+        is_told = how != signal.SIGKILL
+        assert (order.returncode, b"farm-1: not up yet after" in said) == (130 if is_told else -how, is_told)
+        put(f"{it.env['LIVE']}-go", "")
+        assert it.must("start").splitlines()[-1] == "farm-1: up, 2 users"
+        done = run([f"{TOP}/connect", it.folder, "eve", "-c", "peek 0 80000100"], more=it.env)
+        assert done.output == b"peek 0 12345678\n"
+        assert [name for name in os.listdir(it.folder) if name.startswith("class.")] == ["class.json", "class.lock"]
+        assert sorted(os.listdir(f"{it.folder}/farm-1/records")) == ["eve.replay", "lock", "student-1.replay"]
 
 
 @pytest.mark.long

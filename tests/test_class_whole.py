@@ -4,10 +4,14 @@ it changes the disk."""
 import json
 import os
 import shutil
+import signal
+import subprocess
 import sys
+import time
 
 import pytest
 from support.courses import Course
+from support.live_lines import SECONDS
 from support.trials import TOP, run, text_of
 
 # Orders that write all kinds of files, with the words that follow the folder: sheets, plans of those who were removed, records that
@@ -105,7 +109,7 @@ def test_a_farm_goes_on_after_a_cut(name: str) -> None:
 
 @pytest.mark.long
 def test_no_farm_starts_half_changed() -> None:
-    """A `serve` refuses a farm of whose class an order is half done, and `class start` ends that order first."""
+    """A `serve` refuses a farm of whose class an order is half done, and `class serve`, which a unit calls, ends that order first."""
     with Recorded() as it:
         rows = [json.loads(line) for line in it.cut("kill", 0, *ORDERS["rename"]).splitlines()]
         first = next(row["number"] for row in rows if row["how"] == "after")
@@ -113,5 +117,33 @@ def test_no_farm_starts_half_changed() -> None:
         farm = f"{it.folder}/farm-1"
         done = run([f"{TOP}/serve", f"{farm}/plan.toml", farm], more=it.env)
         assert (done.status, b"was cut short: class start" in done.errors) == (1, True)
+        call = [f"{TOP}/class", "serve", farm]
+        with subprocess.Popen(call, env=it.env, stderr=subprocess.DEVNULL) as served:
+            end = time.monotonic() + SECONDS
+            while not os.path.exists(f"{farm}/operator.sock") and time.monotonic() < end:
+                time.sleep(0.05)
+            it.must("start")
+            assert it.lock(1) == served.pid
+            assert it.ask("eve", "peek 0 80000100\n") == f"peek 0 {WORD}\n"
+            it.must("stop")
+            assert served.wait(SECONDS) == 0
+
+
+@pytest.mark.long
+def test_no_signal_leaves_a_farm_off() -> None:
+    """Whenever a signal comes to an order of a class that is up, the farm is up soon after it, and the student is there once."""
+    with Recorded() as it:
         it.must("start")
-        assert it.ask("eve", "peek 0 80000100\n") == f"peek 0 {WORD}\n"
+        names = ["student-2", "eve"]
+        for step in range(12):
+            call = [f"{TOP}/class", "rename", it.folder, names[0], names[1]]
+            with subprocess.Popen(call, env=it.env, stdout=subprocess.DEVNULL, stderr=subprocess.DEVNULL) as order:
+                time.sleep(0.15 * step)
+                order.send_signal((signal.SIGTERM, signal.SIGHUP, signal.SIGINT)[step % 3])
+                assert order.wait(SECONDS) in (0, 1, 130, -15, -2, -1)
+            end = time.monotonic() + SECONDS
+            while it.ask("student-1", "look 0\n") == "" and time.monotonic() < end:
+                time.sleep(0.1)
+            had = [name for name in names if it.ask(name, "peek 0 80000100\n") == f"peek 0 {WORD}\n"]
+            assert (step, len(had)) == (step, 1)
+            names = had + [name for name in names if name not in had]

@@ -21,7 +21,7 @@ from .replacement import Replacement, discard, go_back, is_left, mend
 from .sheets import count
 from .status import AGAIN, ask_operator
 from .supervising import Awaited, AwaitedChange, supervisor_of
-from .upkeep import INTERRUPTED, Start, Stop, all_done, say
+from .upkeep import INTERRUPTED, Start, Stop, all_done, begin_surely, must_all, say
 
 if TYPE_CHECKING:
     from .kept import Kept
@@ -210,13 +210,6 @@ class Change:
         after = self.kept._replace(farms=self.farms, machine=self.machine(), removed=self.removed, earlier=self.earlier)
         self.files[os.path.join(self.course, CLASS)] = after.text().encode()
 
-    def drafted(self) -> Replacement:
-        """All files but the records, as they are to be."""
-        it = Replacement(self.course)
-        for path, text in self.files.items():
-            it.put(path, text)
-        return it
-
     def apply(self, it: Replacement) -> None:
         """Puts all into its place, when no farm that is touched is up. Of a student whose machine begins anew an empty record
         comes last, for his next record would begin there."""
@@ -267,16 +260,20 @@ class Change:
             build("class", "live")
         stopping = [farm for farm in self.touched if farm in up]
         before = {farm: outs(farm) for farm in stopping}
-        begun = time.monotonic()
+        begun, why = time.monotonic(), ""
         with undisturbed():
             try:
-                draft = self.drafted()
-                if failed := all_done([StopForChange(farm, self.course) for farm in stopping]):
-                    raise Refused("\n".join(f"{it.name}: {it.told_at_last()}" for it in failed))
+                draft = Replacement(self.course)
+                for path, text in self.files.items():
+                    draft.put(path, text)
+                must_all([StopForChange(farm, self.course) for farm in stopping])
                 self.apply(draft)
+                starts = [self.start_of(farm, self.farms[farm]) for farm in self.touched if up and farm in self.farms]
             except (OSError, Refused) as error:
-                self.go_back(stopping, f"{error}")
-        starts = [self.start_of(farm, self.farms[farm]) for farm in self.touched if up and farm in self.farms]
+                why, starts = self.go_back(stopping, f"{error}")
+            begin_surely(starts)
+        if why:
+            refuse(why, starts)
         return self.started(starts, stopping, before, begun)
 
     def started(self, starts: list[Start], stopping: list[str], before: dict[str, set[str]], begun: float) -> int:
@@ -297,21 +294,29 @@ class Change:
         if wrong:
             with undisturbed():
                 all_done([Stop(it.folder, self.course) for it in starts])
-                self.go_back(stopping, "\n".join(wrong))
+                why, starts = self.go_back(stopping, "\n".join(wrong))
+                begin_surely(starts)
+            refuse(why, starts)
         discard(self.course)
         for it in starts:
             away = f", and was away for {time.monotonic() - begun:.1f} s" if it.folder in stopping else ""
             say(f"{it.name}: up, {count(it.users, 'user')}{away}")
         return 0
 
-    def go_back(self, stopping: list[str], why: str) -> NoReturn:
-        """Makes all as it was, starts the farms that were up, and says why."""
-        told = [why]
+    def go_back(self, stopping: list[str], why: str) -> tuple[str, list[Start]]:
+        """Makes all as it was; what is said of it, and the starts of the farms that were up."""
         try:
             go_back(self.course)
-            told.append("all is as it was")
+            told = "all is as it was"
         except (OSError, Refused) as error:
-            told.append(f"{error}\nthe next order makes all as it was")
-        failed = all_done([self.start_of(farm, self.kept.farms[farm], Awaited) for farm in stopping])
-        told += [f"{it.name}: {it.told_at_last()}" for it in failed]
-        raise Refused("\n".join(told))
+            told = f"{error}\nthe next order makes all as it was"
+        return f"{why}\n{told}", [self.start_of(farm, self.kept.farms[farm], Awaited) for farm in stopping]
+
+
+def refuse(why: str, starts: list[Start]) -> NoReturn:
+    """Refuses an order when the farms that were up are up again, or nobody waits for them any longer."""
+    try:
+        left = all_done(starts)
+    except KeyboardInterrupt:
+        left = [it for it in starts if it.is_alive()]
+    raise Refused("\n".join([why, *(f"{it.name}: {it.outcome[1] if it.outcome else it.left()}" for it in left)]))

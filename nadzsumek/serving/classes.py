@@ -8,6 +8,7 @@ import os
 import shlex
 import signal
 import sys
+import time
 from collections.abc import Callable
 from concurrent.futures import ThreadPoolExecutor
 
@@ -25,6 +26,7 @@ from .folder import (
     add_proved,
     build,
     check_own,
+    is_half_done,
     is_locked,
     made,
     mode_of,
@@ -35,12 +37,12 @@ from .folder import (
 )
 from .kept import Kept, Rooms, own_class
 from .plans import LIMIT, Machine, farms_of, plan_of, students_of
-from .replacement import is_left, replace
+from .replacement import replace
 from .rooms import RECORD_ROOM, ROOM, Needed, add_rooms
 from .sheets import count, sheet, sheet_path, ways_of
 from .status import table, told_by
 from .supervising import LEAVE_OFF, Supervisor, tell
-from .upkeep import INTERRUPTED, Stop, do_all
+from .upkeep import INTERRUPTED, LAST_SECONDS, PAUSE, Stop, do_all
 from .verifying import verify
 from .versions import add_version
 from .wall import wall
@@ -141,6 +143,19 @@ def start_with(words: list[str]) -> int:
     return start(it.DIR)
 
 
+def mend_soon(course: str) -> None:
+    """Ends an order that is half done, unless another process of the class does. Units start all its farms side by side."""
+    end = time.monotonic() + LAST_SECONDS
+    while is_half_done(course):
+        try:
+            with hold(course, fcntl.LOCK_EX):
+                pass
+        except Refused:
+            if time.monotonic() > end:
+                raise
+            time.sleep(PAUSE)
+
+
 def serve(*words: str) -> int:
     """Becomes the `serve` of one farm, with what is kept of its class, or has those of all its farms as children, as a unit of
     systemd wants it."""
@@ -153,10 +168,9 @@ def serve(*words: str) -> int:
     farm = os.path.abspath(farm)
     is_whole = os.path.isfile(os.path.join(farm, CLASS))
     course = farm if is_whole else os.path.dirname(farm)
+    own_class(course)
+    mend_soon(course)
     kept = own_class(course)
-    if is_left(course):
-        with hold(course, fcntl.LOCK_EX):
-            kept = own_class(course)
     if is_whole:
         return Supervisor(farm, more).run()
     if farm not in kept.farms:

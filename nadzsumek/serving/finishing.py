@@ -26,7 +26,7 @@ from .replacement import Replacement, discard
 from .rooms import shown
 from .sheets import count
 from .supervising import Awaited, tell
-from .upkeep import SAY_SECONDS, Start, Stop, all_done, begin_all, say
+from .upkeep import SAY_SECONDS, Start, Stop, all_done, begin_surely, must_all, say
 
 if TYPE_CHECKING:
     from .changing import Change
@@ -36,7 +36,7 @@ ENDING = ".tar.xz"
 OWN = re.compile(r"^((class\.)?lock|pace)$|\.sock$")
 # How much an archive is squeezed, in pieces of so many bytes, of which so many are on their way. Records of thirty students are
 # squeezed in minutes.
-PRESET, SQUEEZED, MOST_PIECES = 1, 1 << 22, min(os.cpu_count() or 1, 8)
+PRESET, SQUEEZED, MOST_PIECES = 0, 1 << 22, min(os.cpu_count() or 1, 8)
 
 
 def entries_of(folder: str) -> list[str]:
@@ -99,31 +99,38 @@ def taken(change: Change) -> list[Item]:
     draft, top = Replacement(change.course).draft, os.path.dirname(change.course)
     items = []
     for number, path in enumerate(checked(change)):
-        held = os.path.join(draft, f"{number}")
-        if os.path.isdir(path):
-            held = path
-        else:
+        held = path if os.path.isdir(path) else os.path.join(draft, f"{number}")
+        if held != path:
             os.link(path, held, follow_symlinks=False)
         items.append(Item(path, os.path.relpath(path, top), held, os.lstat(held).st_size))
     return items
 
 
-class Squeezed:
-    """A file into which an archive is squeezed in pieces, side by side. As a person waits, it is said how far that is."""
+class Progress:
+    """What of so many bytes is done, which is said now and then to the person who waits."""
 
-    def __init__(self, file: IO[bytes], pool: ThreadPoolExecutor, size: int) -> None:
-        self.file, self.pool, self.size, self.count = file, pool, size, 0
-        self.held, self.last = bytearray(), time.monotonic()
+    def __init__(self, size: int, what: str) -> None:
+        self.size, self.what, self.done, self.last = size, what, 0, time.monotonic()
+
+    def count(self, size: int) -> None:
+        self.done += size
+        if time.monotonic() > self.last + SAY_SECONDS:
+            self.last = time.monotonic()
+            say(f"{shown(self.done)} of {shown(self.size)} {self.what}")
+
+
+class Squeezed:
+    """A file into which an archive is squeezed in pieces, side by side."""
+
+    def __init__(self, file: IO[bytes], pool: ThreadPoolExecutor, progress: Progress) -> None:
+        self.file, self.pool, self.progress, self.held = file, pool, progress, bytearray()
         self.pieces: collections.deque[Future[bytes]] = collections.deque()
 
     def write(self, piece: bytes) -> int:
         self.held += piece
-        self.count += len(piece)
+        self.progress.count(len(piece))
         if len(self.held) >= SQUEEZED:
             self.hand_on(MOST_PIECES)
-        if time.monotonic() > self.last + SAY_SECONDS:
-            self.last = time.monotonic()
-            say(f"{shown(self.count)} of {shown(self.size)} are in the archive")
         return len(piece)
 
     def hand_on(self, most: int) -> None:
@@ -138,30 +145,36 @@ def write(items: list[Item], file: IO[bytes]) -> None:
     """Writes the archive, and reads it again."""
     size = sum(it.size for it in items)
     with ThreadPoolExecutor(MOST_PIECES) as pool:
-        squeezed = Squeezed(file, pool, size)
+        squeezed = Squeezed(file, pool, Progress(size, "are in the archive"))
         with tarfile.open(fileobj=cast(IO[bytes], squeezed), mode="w|", bufsize=PIECE) as archive:
             for it in items:
                 info = plain(archive.gettarinfo(it.held, it.name))
-                if info.isdir():
-                    archive.addfile(info)
-                    continue
-                info.size = it.size
-                with open(it.held, "rb") as here:
+                with open(os.devnull if info.isdir() else it.held, "rb") as here:
+                    info.size = 0 if info.isdir() else it.size
                     archive.addfile(info, here)
         squeezed.hand_on(0)
     os.fsync(file.fileno())
     file.seek(0)
-    said = time.monotonic()
+    progress = Progress(size, "are read again and compared")
     with lzma.open(file) as unpacked, tarfile.open(fileobj=unpacked, mode="r|") as archive:
         for entry, it in zip(archive, items, strict=True):
-            if entry.name != it.name or (entry.isfile() and not is_same(archive.extractfile(entry), it)):
+            if entry.name != it.name or (entry.isfile() and not is_same(archive.extractfile(entry), it, progress)):
                 raise Refused(f"{it.path} isn't in the archive as it is, so nothing is removed")
-            if time.monotonic() > said + SAY_SECONDS:
-                said = time.monotonic()
-                say(f"the archive is read again: {shown(entry.offset)} of {shown(size)}")
 
 
-def is_same(there: IO[bytes] | None, it: Item) -> bool:
+def put_archive(items: list[Item], path: str) -> None:
+    """Writes the archive at a path, whole or not at all."""
+    try:
+        with open(new_file(f"{path}.new", OWN_FILE), "w+b") as file:
+            write(items, file)
+        os.rename(f"{path}.new", path)
+        sync(os.path.dirname(path))
+    finally:
+        with contextlib.suppress(FileNotFoundError):
+            os.unlink(f"{path}.new")
+
+
+def is_same(there: IO[bytes] | None, it: Item, progress: Progress) -> bool:
     """Whether what the archive has is the file as it was taken."""
     left = it.size
     with open(it.held, "rb") as here:
@@ -170,6 +183,7 @@ def is_same(there: IO[bytes] | None, it: Item) -> bool:
             if not piece or piece != there.read(len(piece)):
                 return False
             left -= len(piece)
+            progress.count(len(piece))
     return not left
 
 
@@ -217,16 +231,16 @@ def stopped(change: Change, is_last: bool) -> Iterator[tuple[list[Item], list[St
     starts = [change.start_of(farm, change.kept.farms[farm], Awaited) for farm in up]
     try:
         with undisturbed():
-            if failed := all_done(ended):
-                raise Refused("\n".join(f"{it.name}: {it.told_at_last()}" for it in failed))
+            must_all(ended)
             items = taken(change)
             if not is_last:
-                begin_all(starts)
+                begin_surely(starts)
         yield items, [] if is_last else starts
     except BaseException as error:
         with undisturbed():
-            failed = all_done(starts)
-        told = [f"{it.name}: {it.told_at_last()}" for it in failed]
+            begin_surely(starts)
+        # one more Ctrl-C ends the waiting alone
+        told = [f"{it.name}: {it.told_at_last()}" for it in all_done(starts)]
         if not isinstance(error, OSError | Refused):
             print("".join(f"{escaped(it)}\n" for it in told), end="", file=sys.stderr)
             raise
@@ -256,14 +270,7 @@ def finish(words: list[str]) -> int:
         check_place(change, path)
         users = users_of(change)
         with stopped(change, it.remove) as (items, starts):
-            try:
-                with open(new_file(f"{path}.new", OWN_FILE), "w+b") as file:
-                    write(items, file)
-                os.rename(f"{path}.new", path)
-                sync(os.path.dirname(path))
-            finally:
-                with contextlib.suppress(FileNotFoundError):
-                    os.unlink(f"{path}.new")
+            put_archive(items, path)
             records = sum(os.path.basename(os.path.dirname(item.path)) == "records" for item in items)
             if it.remove:
                 with undisturbed():

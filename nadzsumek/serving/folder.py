@@ -245,9 +245,14 @@ def check_own_file(path: str) -> None:
         raise Refused(f"other accounts may write {path}: look at what it says, and then chmod go-w {path} forbids it")
 
 
+def is_half_done(course: str) -> bool:
+    """Whether some files of a class are as before an order and others as after it."""
+    return any(os.path.exists(os.path.join(course, it)) for it in (CLASS_READY, CLASS_BACK))
+
+
 def check_whole(course: str) -> None:
     """Refuses a farm of a class of which an order is half done: its plan and its records may not fit."""
-    if any(os.path.exists(os.path.join(course, it)) for it in (CLASS_READY, CLASS_BACK)):
+    if is_half_done(course):
         raise Refused(
             f"an order of the class in {course} was cut short: class start {shlex.quote(course)} ends it first"
         )

@@ -11,6 +11,7 @@ import sys
 import threading
 import time
 from collections.abc import Sequence
+from typing import TypeVar
 
 from .escapes import escaped
 from .folder import LOG, OWN_FILE, Refused, is_locked, own_plan, program
@@ -32,6 +33,8 @@ ANSWER_SECONDS, PAUSE = 3, 0.05
 # How long a farm that has ended the operator's connection may still have its folder, and how long it is tried to ask one that
 # can't be asked yet.
 LAST_SECONDS = 5
+# How long it is waited until the process of a farm has begun.
+BEGIN_SECONDS = 1
 # How often a `serve` is begun that finds the folder in use for a moment.
 MOST_BEGUN = 3
 TAKEN = "is served already"
@@ -65,6 +68,9 @@ def is_up(farm: str) -> bool:
         return any(it.startswith("!words ") for it in ask_operator(farm, "!words", ANSWER_SECONDS))
     except OSError:
         return False
+
+
+It = TypeVar("It", bound="Work")
 
 
 class Work(threading.Thread):
@@ -299,7 +305,16 @@ def begin_all(works: Sequence[Work]) -> None:
         work.begin()
 
 
-def all_done(works: Sequence[Work]) -> list[Work]:
+def begin_surely(works: Sequence[Work]) -> None:
+    """Begins works, and gives each the time to begin its process, which then goes on whatever becomes of this one."""
+    begin_all(works)
+    end = time.monotonic() + BEGIN_SECONDS
+    for work in works:
+        if work.ident is not None:
+            work.join(max(0, end - time.monotonic()))
+
+
+def all_done(works: Sequence[It]) -> list[It]:
     """Does works side by side, and says each few seconds what is waited for; those that failed."""
     begin_all(works)
     while waiting := [it for it in works if it.is_alive()]:
@@ -307,6 +322,12 @@ def all_done(works: Sequence[Work]) -> list[Work]:
         if waiting[0].is_alive():
             say(f"{waiting[0].name}: {waiting[0].waited()}")
     return [it for it in works if not (it.outcome or (False, ""))[0]]
+
+
+def must_all(works: Sequence[Work]) -> None:
+    """Does works side by side, and refuses to go on if one fails."""
+    if failed := all_done(works):
+        raise Refused("\n".join(f"{it.name}: {it.told_at_last()}" for it in failed))
 
 
 def do_all(works: Sequence[Work]) -> int:
