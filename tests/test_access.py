@@ -23,7 +23,7 @@ import pytest
 from support.booted import Booted, NotBooted
 from support.screens import CONTROL_D, Screen
 from support.serving_trials import plan_of_users
-from support.trials import TOP, program
+from support.trials import TOP, program, put, text_of
 
 pytestmark = [pytest.mark.long, pytest.mark.alone]
 SECONDS = 60
@@ -57,12 +57,19 @@ class Missing(Exception):
     """What must be there before anything can be tried."""
 
 
-def group_of(name):
+def group_of(name: str) -> str:
     """The group to which a user's socket is given."""
     return f"farm-{name}"
 
 
-def done(call, text="", status=0, seconds=SECONDS, **more):
+def done(
+    call: list[str],
+    text: str = "",
+    status: int | None = 0,
+    seconds: float = SECONDS,
+    env: dict[str, str] | None = None,
+    cwd: str | None = None,
+) -> str:
     """What a call says on standard output and standard error. It must end with this status, if one is given."""
     it = subprocess.run(
         call,
@@ -72,7 +79,8 @@ def done(call, text="", status=0, seconds=SECONDS, **more):
         encoding="utf-8",
         timeout=seconds,
         check=False,
-        **more,
+        env=env,
+        cwd=cwd,
     )
     assert (
         status is None or it.returncode == status
@@ -80,7 +88,7 @@ def done(call, text="", status=0, seconds=SECONDS, **more):
     return it.stdout
 
 
-def install():
+def install() -> None:
     """Installs the packages whose commands aren't there."""
     lacking = sorted({package for command, package in PACKAGES.items() if not shutil.which(command, path=PATH)})
     if not lacking:
@@ -106,11 +114,13 @@ class Accounts:
     """The accounts of the trials, and a group for the socket of each user, in which that of the farm is too, as docs/SERVE.md
     wants it."""
 
-    def __init__(self, room):
-        self.room, self.made, self.groups = room, [], []
+    def __init__(self, room: str) -> None:
+        self.room = room
+        self.made: list[str] = []
+        self.groups: list[str] = []
 
-    def __enter__(self):
-        accounts, groups = ({it[0] for it in them} for them in (pwd.getpwall(), grp.getgrall()))
+    def __enter__(self) -> "Accounts":
+        accounts, groups = {it.pw_name for it in pwd.getpwall()}, {it.gr_name for it in grp.getgrall()}
         for there, names, what, remove in (
             (accounts, ACCOUNTS, "an account", "userdel"),
             (groups, map(group_of, (ANN, BOB)), "a group", "groupdel"),
@@ -140,7 +150,7 @@ class Accounts:
                 done(["usermod", "--append", "--groups", group_of(name), account])
         return self
 
-    def __exit__(self, *_):
+    def __exit__(self, *_: object) -> None:
         for remove, names in (("userdel", self.made), ("groupdel", self.groups)):
             for name in names:
                 subprocess.run([remove, name], capture_output=True, check=False)
@@ -149,23 +159,22 @@ class Accounts:
 class Place:
     """The installed commands, the plan, and the folder of the farm, whose account is FARM."""
 
-    def __init__(self, room):
+    def __init__(self, room: str) -> None:
         self.room, self.prefix, self.folder = room, f"{room}/prefix", f"{room}/farm"
-        self.plan, self.process, self.path = f"{room}/plan.toml", None, f"{room}/prefix/bin:/usr/bin:/bin"
+        self.plan, self.path = f"{room}/plan.toml", f"{room}/prefix/bin:/usr/bin:/bin"
         done(
             [f"{TOP}/tools/install", "--draft", self.prefix],
             env={**os.environ, **{name.upper(): program(name) for name in ("farm", "lab", "live")}},
         )
-        with open(self.plan, "w", encoding="utf-8") as it:
-            it.write(plan_of_users([ANN, BOB]))
+        put(self.plan, plan_of_users([ANN, BOB]))
 
-    def begin(self):
+    def begin(self) -> None:
         """A folder for the farm without any records."""
         shutil.rmtree(self.folder, ignore_errors=True)
         os.mkdir(self.folder)
         shutil.chown(self.folder, FARM, FARM)
 
-    def call(self, account, *words):
+    def call(self, account: str, *words: str) -> list[str]:
         """A call by an account, whose path has the installed commands and no prover."""
         return [
             "setpriv",
@@ -180,14 +189,14 @@ class Place:
             *words,
         ]
 
-    def by(self, account, *words, text="", status=0):
+    def by(self, account: str, *words: str, text: str = "", status: int | None = 0) -> str:
         """What the call says."""
         return done(self.call(account, *words), text, status, cwd="/")
 
-    def socket(self, name):
+    def socket(self, name: str) -> str:
         return f"{self.folder}/{name}.sock"
 
-    def serve(self, *more):
+    def serve(self, *more: str) -> "Up":
         """A farm that is up, as a context."""
         return Up(self, more)
 
@@ -216,23 +225,22 @@ def place(kept_place: Place) -> Place:
 class Up:
     """A farm that is up until the end of a block."""
 
-    def __init__(self, place, more):
-        self.place, self.more, self.process, self.log = place, more, None, f"{place.room}/serve.log"
+    def __init__(self, place: Place, more: tuple[str, ...]) -> None:
+        self.place, self.more, self.log = place, more, f"{place.room}/serve.log"
 
-    def __enter__(self):
+    def __enter__(self) -> "Up":
         call = self.place.call(FARM, "serve", *self.more, self.place.plan, self.place.folder)
         with open(self.log, "wb") as log:
             self.process = subprocess.Popen(call, stdin=subprocess.DEVNULL, stdout=log, stderr=log, cwd="/")
         end = time.monotonic() + SECONDS
         while True:
-            with open(self.log, encoding="utf-8") as log:
-                told = log.read()
+            told = text_of(self.log)
             if "their sockets are in" in told:
                 return self
             assert time.monotonic() <= end and self.process.poll() is None, f"serve is not up: {told}"
             time.sleep(0.02)
 
-    def __exit__(self, *_):
+    def __exit__(self, *_: object) -> None:
         self.process.send_signal(signal.SIGTERM)
         assert self.process.wait(timeout=SECONDS) == 0
 
@@ -254,17 +262,18 @@ def test_nc_and_socat_speak(place: Place) -> None:
             with subprocess.Popen(
                 place.call(FARM, *call), stdin=subprocess.PIPE, stdout=subprocess.PIPE, encoding="utf-8", cwd="/"
             ) as it:
+                assert it.stdin and it.stdout
                 for _ in range(3):
                     it.stdin.write("look 0\n")
                     it.stdin.flush()
                     assert it.stdout.readline() == BOOTING
                 it.terminate()
                 it.wait()
-        told = place.by(FARM, *calls["nc"], text="look 0\nlook").splitlines(keepends=True)
-        assert sorted(told) == ["error: the last line has no line feed, so it is not sent\n", BOOTING]
+        lines = place.by(FARM, *calls["nc"], text="look 0\nlook").splitlines(keepends=True)
+        assert sorted(lines) == ["error: the last line has no line feed, so it is not sent\n", BOOTING]
 
 
-def sockets_open_for(place):
+def sockets_open_for(place: Place) -> dict[tuple[str, str], bool]:
     """Who can open which socket: for each account and socket whether it answered, or that the right was refused."""
     told = {}
     for account in ACCOUNTS:
@@ -383,13 +392,13 @@ KbdInteractiveAuthentication no
 AllowUsers {users}
 """
 
-    def __init__(self, place):
-        self.place, self.process, self.has_made_folder = place, None, False
+    def __init__(self, place: Place) -> None:
+        self.place, self.has_made_folder = place, False
         with socket.socket() as free:
             free.bind(("127.0.0.1", 0))
             self.port = free.getsockname()[1]
 
-    def __enter__(self):
+    def __enter__(self) -> "Sshd":
         room = self.place.room
         self.has_made_folder = not os.path.exists(SEPARATED)
         os.makedirs(SEPARATED, mode=0o755, exist_ok=True)
@@ -400,14 +409,12 @@ AllowUsers {users}
         for name, lines in ((ANN, [("", f"key-{ANN}"), (bound, "bound-key")]), (BOB, [("", f"key-{BOB}")])):
             os.makedirs(f"{room}/{name}/.ssh", exist_ok=True)
             with open(f"{room}/{name}/.ssh/authorized_keys", "w", encoding="utf-8") as it:
-                for words, key in lines:
-                    with open(f"{room}/{key}.pub", encoding="utf-8") as public:
-                        it.write(words + public.read())
+                it.writelines(words + text_of(f"{room}/{key}.pub") for words, key in lines)
         with open(f"{room}/sshd_config", "w", encoding="utf-8") as it:
             it.write(self.CONFIG.format(port=self.port, room=room, users=f"{ANN} {BOB}"))
         with open(f"{room}/sshd.log", "wb") as log:
             self.process = subprocess.Popen(
-                [shutil.which("sshd", path=PATH), "-D", "-e", "-f", f"{room}/sshd_config"],
+                [shutil.which("sshd", path=PATH) or "sshd", "-D", "-e", "-f", f"{room}/sshd_config"],
                 stdin=subprocess.DEVNULL,
                 stdout=log,
                 stderr=log,
@@ -415,18 +422,17 @@ AllowUsers {users}
         end = time.monotonic() + SECONDS
         while socket.socket().connect_ex(("127.0.0.1", self.port)) != 0:
             if time.monotonic() > end or self.process.poll() is not None:
-                with open(f"{room}/sshd.log", encoding="utf-8") as log:
-                    raise AssertionError(f"sshd is not up: {log.read()}")
+                raise AssertionError(f"sshd is not up: {text_of(f'{room}/sshd.log')}")
             time.sleep(0.02)
         return self
 
-    def __exit__(self, *_):
+    def __exit__(self, *_: object) -> None:
         self.process.terminate()
         self.process.wait(timeout=SECONDS)
         if self.has_made_folder:
             os.rmdir(SEPARATED)
 
-    def call(self, account, key, *words):
+    def call(self, account: str, key: str, *words: str) -> list[str]:
         """A call of ssh by whoever holds this key."""
         options = (
             "IdentitiesOnly=yes",
@@ -473,7 +479,7 @@ def test_ssh_brings_a_terminal(place: Place) -> None:
         assert DENIED in done(sshd.call(BOB, f"key-{ANN}"), status=255)
 
 
-def forwarded(place, sshd, account, key):
+def forwarded(place: Place, sshd: Sshd, account: str, key: str) -> tuple[str, str]:
     """What is answered at a socket here that ssh forwards to ann's, and what ssh says."""
     here = f"{place.room}/forwarded.sock"
     call = sshd.call(
@@ -513,22 +519,21 @@ MOST_EXPOSED = 15
 EXPOSED = re.compile(r"exposure level for \S+: (\d+\.\d)")
 
 
-def said_of_unit(folder, name, unit):
+def said_of_unit(folder: str, name: str, unit: str) -> tuple[str, bool, float | None]:
     """What systemd says of a unit, whether it may be so exposed, and how exposed it is."""
-    with open(f"{folder}/{name}", "w", encoding="utf-8") as it:
-        it.write(unit)
-    told = done(["systemd-analyze", "verify", "--man=no", f"{folder}/{name}"], status=None)
+    path = put(f"{folder}/{name}", unit)
+    told = done(["systemd-analyze", "verify", "--man=no", path], status=None)
     call = [
         "systemd-analyze",
         "security",
         "--offline=true",
         "--no-pager",
         f"--threshold={MOST_EXPOSED}",
-        f"{folder}/{name}",
+        path,
     ]
     looked = subprocess.run(call, capture_output=True, encoding="utf-8", timeout=SECONDS, check=False)
     exposed = EXPOSED.search(looked.stdout)
-    return told, looked.returncode == 0, exposed and float(exposed[1])
+    return told, looked.returncode == 0, float(exposed[1]) if exposed else None
 
 
 # What is taken out of a unit or put into it, and whether systemd finds a mistake, or that it is too exposed.
@@ -545,9 +550,9 @@ def test_units_are_right(place: Place) -> None:
     folder, told, common = f"{place.room}/units", [], []
     os.mkdir(folder)
     for name in ("farm@.service", "class@.service"):
-        with open(f"{place.prefix}/share/nadzsumek/{name}", encoding="utf-8") as it:
-            unit = it.read()
+        unit = text_of(f"{place.prefix}/share/nadzsumek/{name}")
         said, fits, exposed = said_of_unit(folder, name, unit)
+        assert exposed is not None, said
         assert (name, said, fits, exposed * 10 <= MOST_EXPOSED) == (name, "", True, True)
         told.append(f"{name} {exposed}")
         for part, other, is_mistake, is_exposed in MISTAKES:
@@ -592,12 +597,12 @@ def test_units_keep_farms(place: Place) -> None:
         pytest.skip(f"{error}")
 
 
-def by_user(account, folder, name):
+def by_user(account: str, folder: str, name: str) -> list[str]:
     """A terminal in the other machine, by this account."""
     return ["runuser", "-u", account, "--", f"{THERE}/bin/connect", folder, name]
 
 
-def one_farm_is_kept(machine):
+def one_farm_is_kept(machine: Booted) -> None:
     """The farm of a plan, whose folder the system makes."""
     folder = "/var/lib/nadzsumek/lab"
     machine.must("systemctl", "start", "farm@lab")
@@ -627,14 +632,11 @@ def one_farm_is_kept(machine):
     assert machine.must("systemctl", "show", "-p", "Result", "farm@lab") == "Result=success\n"
 
 
-def may_do_little(machine, number):
+def may_do_little(machine: Booted, number: str) -> None:
     """What a process of a farm can't do."""
     status = machine.must("cat", f"/proc/{number}/status")
-    assert [re.search(f"^{it}:\\s*(\\S+)$", status, re.MULTILINE)[1] for it in ("NoNewPrivs", "Seccomp", "CapBnd")] == [
-        "1",
-        "2",
-        "0" * 16,
-    ]
+    rows = dict(line.split(":", 1) for line in status.splitlines())
+    assert [rows[it].strip() for it in ("NoNewPrivs", "Seccomp", "CapBnd")] == ["1", "2", "0" * 16]
     inside = ["nsenter", "-t", number, "-m", "-n"]
     for path in ("/etc/new", "/var/lib/nadzsumek/new", "/opt/new"):
         assert (path, "Read-only file system" in machine.call(*inside, "touch", path)[1]) == (path, True)
@@ -642,7 +644,7 @@ def may_do_little(machine, number):
     assert machine.must(*inside, "ls", "-A", "/home", "/root") == "/home:\n\n/root:\n"
 
 
-def a_class_is_kept(machine):
+def a_class_is_kept(machine: Booted) -> None:
     """The farms of a class, each by a unit of its own, which are enabled."""
     machine.must("install", "--directory", "--owner", FARM, "--group", FARM, "/srv/course")
     machine.must("sh", "-c", f"printf '{ANN}\n{BOB}\n' > /srv/names.txt")

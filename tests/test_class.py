@@ -11,6 +11,7 @@ import time
 import pytest
 from nadzsumek import Farm
 from nadzsumek.serving import verifying
+from nadzsumek.serving.folder import Refused
 from nadzsumek.serving.kept import Kept
 from support.courses import Course, child_of, ended
 from support.live_lines import PLAN, SECONDS
@@ -171,8 +172,8 @@ def test_stop_asks_every_farm() -> None:
             )
             # what has the records of the first is named, for it goes on
             done = it.call("stop", it.folder)
-            told = [re.sub(r"\d{2,}", "N", line) for line in done.stdout.splitlines() if "not off yet" not in line]
-            assert (done.returncode, told) == (
+            lines = [re.sub(r"\d{2,}", "N", line) for line in done.stdout.splitlines() if "not off yet" not in line]
+            assert (done.returncode, lines) == (
                 1,
                 [
                     "farm-1: no serve has it, but a live (process N) has its records still: kill N ends it",
@@ -406,7 +407,7 @@ class Marked:
             status, told = verifying.verify(
                 self.course.folder, Kept({f"{self.course.folder}/farm-1": ["student-1"]}, []), "student-1", path
             )
-        except verifying.Refused as refused:
+        except Refused as refused:
             return 1, 0 if "is no record" in f"{refused}" else None
         assert RAW.search("\n".join(told).encode()) is None
         line = re.search(r" in line (\d+), ", told[0])

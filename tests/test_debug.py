@@ -9,11 +9,27 @@ import signal
 import subprocess
 import tempfile
 import time
+from collections.abc import Iterable
 
 import pytest
-from support.recorded import HEAD, JOINED, NODE, ONE, SETTLE, TWO, assembled, boot, by_hand, lab, recorded
+from support.recorded import (
+    HEAD,
+    JOINED,
+    NODE,
+    ONE,
+    SETTLE,
+    TWO,
+    assembled,
+    boot,
+    by_hand,
+    events_in,
+    lab,
+    recorded,
+)
 from support.trials import LAB, program, put, text_of
 
+# After each of some counts of events: what the nodes are, and the outputs that are driven.
+States = list[tuple[list[str], list[str]]]
 # Moves the workspace and loops for ever: b4 at 80000048, nfix 0 at 80000049 and j at 8000004a. W is 8000004c, and then 8000005c.
 LOOP = "b4600e"
 # Counts in the word at W plus 4: ajw 4, ldc 0, stl 1, and from 8000004b on ldl 1, adc 1, stl 1, nfix 0, j. The code ends at
@@ -95,7 +111,9 @@ TYPED = by_hand(TYPES_CODE, 22 + 3 * 19 + 17)
 TALKED = by_hand(CHANNEL_CODE, 6 + 17 + 3 + 4 + 4 + 2)
 
 
-def debugged(record, commands, words=(), files=None):
+def debugged(
+    record: str, commands: Iterable[str], words: Iterable[str] = (), files: dict[str, str] | None = None
+) -> tuple[int | None, str, str]:
     """Status, standard output and standard error of `lab debug` on a record, given these commands."""
     with tempfile.TemporaryDirectory() as folder:
         path = os.path.join(folder, "ann.replay")
@@ -108,7 +126,7 @@ def debugged(record, commands, words=(), files=None):
         return status, out.replace(folder, "FOLDER"), errors
 
 
-def said(record, commands, words=(), files=None):
+def said(record: str, commands: Iterable[str], words: Iterable[str] = (), files: dict[str, str] | None = None) -> str:
     """What is printed behind the first line, which says how many events there are."""
     status, out, errors = debugged(record, commands, words, files)
     if status != 0:
@@ -1054,18 +1072,16 @@ def test_cut_anywhere() -> None:
     assert shown == wanted
 
 
-def event_lines(record):
-    """The lines of the events, one each."""
-    for line in record.split("---\n")[1].splitlines():
-        times, event = re.fullmatch(r"(?:(\d+) times )?(0 [^=]*) = .*", line).groups()
-        yield from [event] * int(times or 1)
+def event_lines(record: str) -> list[str]:
+    """The lines of the events, one each, without what came of them."""
+    return [it.split(" = ")[0] for it in events_in(record)]
 
 
-def looked_at(record, counts):
+def looked_at(record: str, counts: Iterable[int]) -> list[list[str]]:
     """What `lab debug` shows of node 0 and of the switch after so many events."""
     commands = [it for n in counts for it in (f"go {n}", "look", "switch")]
-    shown, states = said(record, commands).splitlines(), []
-    for line in shown:
+    states: list[list[str]] = []
+    for line in said(record, commands).splitlines():
         if line.startswith("after"):
             states.append([])
         elif line != "no output is driven":
@@ -1073,9 +1089,9 @@ def looked_at(record, counts):
     return states
 
 
-def replayed(record, counts, nodes):
+def replayed(record: str, counts: Iterable[int], nodes: int) -> States:
     """The same by `lab replay` of the first so many events, each time on a fresh farm."""
-    head, events = record.split("---\n")[0], list(event_lines(record))
+    head, events = record.split("---\n")[0], event_lines(record)
     text, states = "", []
     for n in counts:
         looks = [f"0 look {node}" for node in range(nodes)]
@@ -1090,13 +1106,15 @@ def replayed(record, counts, nodes):
     return states
 
 
-def drawn(line):
+def drawn(line: str) -> str:
     """A row of `switch` as `lab replay` has the word of its output, without the change count."""
-    output, driver, ready = re.fullmatch(r"output (\d+) \(.*\): input (\d+) \(.*\), (ready|not ready)", line).groups()
-    return f"{output}:{128 + 64 * (ready == 'ready') + int(driver):02x}"
+    row = re.fullmatch(r"output (\d+) \(.*\): input (\d+) \(.*\), (ready|not ready)", line)
+    assert row, line
+    return f"{row[1]}:{128 + 64 * (row[3] == 'ready') + int(row[2]):02x}"
 
 
-def same_as_replay(record, counts, nodes):
+def same_as_replay(record: str, counts: Iterable[int], nodes: int) -> tuple[States, States]:
+    """What each of both shows after so many events."""
     shown = [(it[:nodes], [drawn(row) for row in it[nodes:]]) for it in looked_at(record, counts)]
     wanted = []
     for seen, words in replayed(record, counts, nodes):
@@ -1110,7 +1128,7 @@ def test_states_are_those_of_replay() -> None:
     record = recorded(
         ONE, [JOINED, boot(ECHO), SETTLE] + ["0 write 0 41", SETTLE, "0 read 0"] * 3 + ["0 configs 0507", SETTLE]
     )
-    events = len(list(event_lines(record)))
+    events = len(event_lines(record))
     counts = [*range(0, events, 10), events - 1, events, *range(events, 0, -37)]
     seen, wanted = same_as_replay(record, counts, 1)
     assert seen == wanted
@@ -1119,14 +1137,14 @@ def test_states_are_those_of_replay() -> None:
 def test_states_of_two_nodes() -> None:
     lines = ["0 configs 01020703", boot("ajw 4\nstopp"), SETTLE, "0 configs 0502050701000701010203"]
     record = recorded(TWO, [*lines, boot("ajw 4\nmint\nldnlp 1\nldc 42\noutbyte\nstopp"), SETTLE])
-    events = len(list(event_lines(record)))
+    events = len(event_lines(record))
     seen, wanted = same_as_replay(record, [*range(0, events, 7), events], 2)
     assert seen == wanted
 
 
-def peeked(record, count, address):
+def peeked(record: str, count: int, address: int) -> str:
     """The word at an address after so many events, as node 0 answers a peek by Ann's second host, behind a reset."""
-    head, events = record.split("---\n")[0], list(event_lines(record))[:count]
+    head, events = record.split("---\n")[0], event_lines(record)[:count]
     bytes_of = address.to_bytes(4, "little").hex()
     asks = ["0 reset 0", "0 configs 0500", "0 configs 01000603", f"0 writes 1 01{bytes_of}", SETTLE, *["0 read 1"] * 4]
     text = "".join(f"{it}\n" for it in [*events, *asks])
@@ -1138,7 +1156,7 @@ def test_words_are_those_of_peeks() -> None:
     """The counter's word and the first of its code, whenever the node is peeked."""
     message = [JOINED, f"0 writes 0 08{COUNTER}", SETTLE, "500 times 0 step 0"]
     record = recorded(TWO_HOSTS, message[:2] + ["0 settle 256 30", message[3]])
-    events = len(list(event_lines(record)))
+    events = len(event_lines(record))
     counts = [0, 9, 20, 30, 36, 41, 60, 99, events - 100, events - 1, events]
     commands = [it for n in counts for it in (f"go {n}", "memory 0 80000048 1", "memory 0 80000064 1")]
     shown = [it.split()[1] for it in said(record, commands).splitlines() if not it.startswith("after")]
@@ -1149,7 +1167,7 @@ def test_finds_what_a_search_finds() -> None:
     """Every place to which `until` and `back until` go in an echo's record, beside a search in what is shown after each event."""
     record = recorded(ONE, [JOINED, boot(ECHO), SETTLE] + ["0 write 0 41", SETTLE, "0 read 0"] * 2)
     lines = record.split("---\n")[1].splitlines()
-    events = len(list(event_lines(record)))
+    events = len(event_lines(record))
     words = [
         it.split()[1]
         for it in said(
@@ -1186,7 +1204,7 @@ def test_causes_are_those_of_why() -> None:
     record = recorded(
         TWO, ["0 configs 01020703", boot("ajw 4\nstopp"), SETTLE, "0 configs 05020507010007", boot(ECHO), SETTLE]
     )
-    events = len(list(event_lines(record)))
+    events = len(event_lines(record))
     shown, wanted = [], []
     with tempfile.NamedTemporaryFile(suffix=".replay") as it:
         it.write(record.encode())
@@ -1246,7 +1264,7 @@ def check_quick(record: str, events: int, opens: float, back: float, goes: float
     opened, megabytes, _ = measured(record, [])
     places = [events * part // 17 for part in (3, 16, 1, 9, 12, 5, 14, 2, 11, 7)]
     jumps = measured(record, [f"go {it}" for it in places])[0] - opened
-    steps = 0
+    steps = 0.0
     for place in places[:4]:
         there = measured(record, [f"go {place}"])[0]
         steps = max(steps, (measured(record, [f"go {place}", *["back"] * 20])[0] - there) / 20)
@@ -1262,7 +1280,7 @@ def test_a_million_events() -> None:
     """An echo of many bytes: Moves, Steps, writes and reads, each on its line."""
     loops = 66000
     record = recorded(ONE, [JOINED, boot(ECHO), SETTLE] + ["0 write 0 41", "0 settle 1 100", "0 read 0"] * loops)
-    events = len(list(event_lines(record)))
+    events = len(event_lines(record))
     lines = record.count("\n")
     assert events > 1000000
     assert lines > 500000

@@ -9,10 +9,11 @@ import re
 import subprocess
 import threading
 import time
+from collections.abc import Iterator
 
 import pytest
 from support.serving_trials import Client, Served, plan_of_users
-from support.transcripts import RESTARTED, Sent, events_of, fault_of
+from support.transcripts import RESTARTED, Event, Sent, events_of, fault_of
 from support.trials import LAB
 
 USERS = 16
@@ -48,13 +49,15 @@ class Ended(Exception):
 class Listener(Client):
     """A connection that is read all the time, so that it isn't cut off beside a flood of its own user."""
 
-    def __init__(self, served, path):
+    def __init__(self, served: Served, path: str) -> None:
         super().__init__(served, path)
         self.stream.settimeout(None)
-        self.pieces, self.ready, self.half = queue.SimpleQueue(), collections.deque(), b""
+        self.pieces: queue.SimpleQueue[bytes] = queue.SimpleQueue()
+        self.ready: collections.deque[bytes] = collections.deque()
+        self.half = b""
         threading.Thread(target=self.listen, daemon=True).start()
 
-    def listen(self):
+    def listen(self) -> None:
         try:
             while piece := self.stream.recv(1 << 20):
                 self.pieces.put(piece)
@@ -62,7 +65,7 @@ class Listener(Client):
             pass
         self.pieces.put(b"")
 
-    def hear(self):
+    def hear(self) -> str:
         while not self.ready:
             piece = self.pieces.get(timeout=PATIENCE)
             if not piece:
@@ -72,7 +75,7 @@ class Listener(Client):
         return self.ready.popleft().decode(errors="backslashreplace")
 
 
-def listener(served, name, end):
+def listener(served: Served, name: str, end: float) -> Listener:
     """A connection, as soon as there is a socket. Between two runs of `serve` there is none."""
     while True:
         try:
@@ -86,14 +89,24 @@ def listener(served, name, end):
 class User:
     """A user who asks for all that there is, among lines that are wrong."""
 
-    def __init__(self, served, number, seed):
+    def __init__(self, served: Served, number: int, seed: int) -> None:
         self.served, self.number, self.name = served, number, f"user-{number}"
         self.chance, self.values, self.marks = random.Random(f"{seed} {number}"), 0, 0
-        self.waits, self.sent, self.loose, self.faults = collections.deque(), [], [], []
+        self.waits: collections.deque[Sent] = collections.deque()
+        self.sent: list[Sent] = []
+        self.loose: list[bytes] = []
+        self.faults: list[str] = []
         self.cuts = self.lost = self.heard = self.floods = self.restarts = 0
-        self.client, self.calm = None, 0.0
+        self.connected: Listener | None = None
+        self.calm = 0.0
 
-    def lines(self):
+    @property
+    def client(self) -> Listener:
+        """The connection."""
+        assert self.connected, f"{self.name} isn't connected"
+        return self.connected
+
+    def lines(self) -> list[bytes]:
         """A random line, or two of which the second belongs to the first."""
         kind, address = self.chance.randrange(200), b"%08x" % (FIRST + 4 * self.chance.randrange(WORDS))
         if kind < 90:
@@ -117,16 +130,16 @@ class User:
         )
         return [rest[kind % 8]]
 
-    def batch(self, most):
+    def batch(self, most: int) -> list[bytes]:
         return [line for _ in range(self.chance.randrange(1, most)) for line in self.lines()]
 
-    def connect(self):
+    def connect(self) -> None:
         """A connection, on which only answers to its own lines are due from now on."""
         self.loose += [it.text for it in self.waits]
         self.waits.clear()
         end = time.monotonic() + PATIENCE
         while True:
-            self.client = listener(self.served, self.name, end)
+            self.connected = listener(self.served, self.name, end)
             self.marks += 1
             mark = Sent(b"look %d" % (100 + self.marks % 150), True)
             mark.loose = len(self.loose)
@@ -140,20 +153,20 @@ class User:
             self.sent.append(mark)
             return
 
-    def send(self, texts, half=b""):
+    def send(self, texts: list[bytes], half: bytes = b"") -> None:
         lines = [Sent(it) for it in texts]
         for line in lines:
             line.loose = len(self.loose)
         self.waits.extend(lines)
         self.client.stream.sendall(b"".join(it + b"\n" for it in texts) + half)
 
-    def hear_all(self):
+    def hear_all(self) -> None:
         while self.waits:
             answer = self.client.hear()
             if not answer.startswith(("note: ", "note ", FLOOD, LOST + FLOOD)):
                 self.take(self.waits.popleft(), answer)
 
-    def take(self, sent, answer):
+    def take(self, sent: Sent, answer: str) -> None:
         """The answer to a line, or that there is none."""
         self.sent.append(sent)
         if answer.startswith(LOST):
@@ -167,7 +180,7 @@ class User:
         if not is_right:
             self.faults.append(f"{self.name}: {answer!r} for {sent.text!r}")
 
-    def is_of(self, text, answer):
+    def is_of(self, text: bytes, answer: str) -> bool:
         """Whether an answer may be that of a line, by its form and by whose value it has. What its value is the records
         say."""
         if text == b"rest":
@@ -179,7 +192,7 @@ class User:
             return False
         return answer.startswith(text.decode().split(" ")[0] + " ")
 
-    def cut(self):
+    def cut(self) -> None:
         """Leaves in the middle of a line."""
         self.cuts += 1
         half = self.lines()[0]
@@ -187,17 +200,17 @@ class User:
         self.client.leave()
         self.connect()
 
-    def flood(self):
+    def flood(self) -> None:
         """Floods a second connection for a second, and reads it or not. As long as its lines are before `live`, those
         of a connection that is cut off could come after those of the next; so no cut is made."""
         self.floods += 1
         self.calm = time.monotonic() + 4
         is_over = threading.Event()
         threading.Timer(1, is_over.set).start()
-        words = (self.name, self.chance.random() < 0.5, is_over, [], FLOOD.encode())
+        words = (self.name, self.chance.random() < 0.5, is_over, list[str](), FLOOD.encode())
         threading.Thread(target=self.served.flood, args=words).start()
 
-    def go_on(self):
+    def go_on(self) -> None:
         """Some lines with their answers, and what comes with them."""
         try:
             self.send(self.batch(20))
@@ -209,7 +222,7 @@ class User:
         except (Ended, OSError):
             self.connect()
 
-    def run(self, end):
+    def run(self, end: float) -> None:
         try:
             self.connect()
             self.send([JOINED])
@@ -219,7 +232,7 @@ class User:
         except (AssertionError, OSError, queue.Empty) as error:
             self.faults.append(f"{self.name}: {error!r}")
 
-    def compare(self, records, restarts):
+    def compare(self, records: str, restarts: tuple[int, int]) -> int:
         """How many events the records have that this user asked for. What is wrong is added to the faults."""
         events = events_of(records, self.name)
         fault = fault_of(self.sent, self.loose + [it.text for it in self.waits], events, restarts)
@@ -232,13 +245,15 @@ class Operator(threading.Thread):
     """The operator, who restarts every fourth user's domain now and then: how often he was answered, and how often he
     asked."""
 
-    def __init__(self, served, chance, end):
+    def __init__(self, served: Served, chance: random.Random, end: float) -> None:
         super().__init__()
         self.served, self.chance, self.last = served, chance, end
-        self.answered, self.asked, self.faults = collections.Counter(), collections.Counter(), []
+        self.answered: collections.Counter[str] = collections.Counter()
+        self.asked: collections.Counter[str] = collections.Counter()
+        self.faults: list[str] = []
 
-    def run(self):
-        client = None
+    def run(self) -> None:
+        client: Listener | None = None
         while time.monotonic() < self.last:
             time.sleep(4 * self.chance.random())
             name = f"user-{4 * self.chance.randrange(USERS // 4) + 2}"
@@ -258,26 +273,23 @@ class Operator(threading.Thread):
                 return
 
 
-def kill_till(served, end, chance):
-    """Kills `live` now and then, and `serve` at each fourth time, behind which another `serve` is started at once; how
-    often each."""
-    kills = collections.Counter()
+def kill_till(served: Served, end: float, chance: random.Random) -> None:
+    """Kills `live` now and then, and `serve` at each fourth time, behind which another `serve` is started at once."""
+    kills = 0
     while time.monotonic() + SECONDS_OF_KILL < end:
         time.sleep(SECONDS_OF_KILL + 4 * chance.random())
-        if kills.total() % 4 == 2:
-            kills["serve"] += 1
+        if kills % 4 == 2:
             served.process.kill()
             served.process.wait()
             served.start()
         else:
-            kills["live"] += 1
             served.kill_live()
-    return kills
+        kills += 1
 
 
-def wrong_rows(records):
+def wrong_rows(records: str) -> tuple[int, list[str]]:
     """How many rows the records have, and what `lab rows` finds wrong there."""
-    paths, rows, faults = sorted(glob.glob(f"{records}/*.replay")), 0, []
+    paths, rows, faults = sorted(glob.glob(f"{records}/*.replay")), 0, list[str]()
     for at in range(0, len(paths), 100):
         told = subprocess.run([LAB, "rows", *paths[at : at + 100]], capture_output=True, encoding="utf-8", check=False)
         rows += sum(int(it) for it in re.findall(r": (\d+) rows, ", told.stdout))
@@ -286,7 +298,7 @@ def wrong_rows(records):
         is_said = re.search(r": 0 rows|[1-9]\d* wrong$", told.stdout, re.M) is not None
         if told.returncode != 0 and not (told.returncode == 1 and is_said):
             faults.append(f"lab rows: {told.returncode}: {told.stderr}")
-    return rows, faults, len(paths)
+    return rows, faults
 
 
 @pytest.mark.long
@@ -306,7 +318,7 @@ def test_soak(minutes: float, seed: int) -> None:
         assert served.stop(PATIENCE)[0] == 0
         records = f"{served.folder}/records"
         events = sum(it.compare(records, (operator.answered[it.name], operator.asked[it.name])) for it in users)
-        rows, faults, _ = wrong_rows(records)
+        rows, faults = wrong_rows(records)
     assert faults + operator.faults + [fault for user in users for fault in user.faults] == []
     assert min(user.heard for user in users) > 0
     assert 0 < events <= rows
@@ -314,7 +326,10 @@ def test_soak(minutes: float, seed: int) -> None:
 
 # A line's answer, and the events with their replies that a record has of it, both by hand: the host has room for one
 # byte more.
-ROWS = [
+Row = tuple[bytes, bytes | None]
+# Rows, the events of the records, and how often the operator was answered and asked for a restart.
+Case = tuple[list[Row], list[Event], tuple[int, int]]
+ROWS: list[Row] = [
     (b"config 01000103", b"config -"),
     (b"poke 0 80000100 12345678", b"poke 0 9"),
     (b"rest", b"rest quiet"),
@@ -342,7 +357,7 @@ EVENTS = CONFIG + POKE + PEEK + LATER
 OTHER = {b"written": b"full", b"full": b"written", b"nothing": b"badport", b"12": b"13"}
 
 
-def with_mistakes():
+def with_mistakes() -> Iterator[Case]:
     """The list and its records with one mistake in each way."""
     for at, (event, reply) in enumerate(EVENTS):
         yield ROWS, EVENTS[:at] + EVENTS[at + 1 :], (0, 0)
@@ -352,16 +367,17 @@ def with_mistakes():
             yield ROWS, [*EVENTS[:at], (event, OTHER.get(reply, b"12")), *EVENTS[at + 1 :]], (0, 0)
     for at, (text, answer) in enumerate(ROWS):
         if text != b"rest":
-            yield [*ROWS[:at], (text, answer[:-1] + b"?"), *ROWS[at + 1 :]], EVENTS, (0, 0)
+            yield [*ROWS[:at], (text, answer and answer[:-1] + b"?"), *ROWS[at + 1 :]], EVENTS, (0, 0)
             yield ROWS[:at] + ROWS[at + 1 :], EVENTS, (0, 0)
     yield [ROWS[1], ROWS[0], *ROWS[2:]], EVENTS, (0, 0)
     yield ROWS, EVENTS, (1, 1)
 
 
-def without_mistakes():
+def without_mistakes() -> Iterator[Case]:
     """The list and its records, with lines that weren't answered and are there in whole, in part or not at all, and
     with a restart that is the operator's."""
-    lost, restarted = [ROWS[0], (ROWS[1][0], None), *ROWS[2:]], [*ROWS[:5], *ROWS[6:]]
+    lost: list[Row] = [ROWS[0], (ROWS[1][0], None), *ROWS[2:]]
+    restarted = [*ROWS[:5], *ROWS[6:]]
     yield ROWS, EVENTS, (0, 0)
     for length in range(len(POKE) + 1):
         yield lost, CONFIG + POKE[:length] + PEEK + LATER, (0, 0)

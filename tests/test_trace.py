@@ -88,7 +88,7 @@ SEQ
 """
 
 
-def traced(text, *words, suffix=".s"):
+def traced(text: str, *words: str, suffix: str = ".s") -> tuple[int | None, str, str]:
     """Status, standard output and standard error of `lab trace --program` with the program of this text."""
     with tempfile.NamedTemporaryFile("w", suffix=suffix) as it:
         it.write(text)
@@ -97,7 +97,7 @@ def traced(text, *words, suffix=".s"):
         return status, out, errors.replace(it.name, "FILE")
 
 
-def lines(text, *words, verb="trace"):
+def lines(text: str, *words: str, verb: str = "trace") -> tuple[int | None, str, str]:
     """The same of `lab trace`, or of another subcommand, with lines."""
     return lab([verb, *words], text.encode())
 
@@ -204,7 +204,7 @@ def test_many_steps_are_one_answer() -> None:
     assert lines(LOOP + "run 3000000\n") == (0, "-\n3000000 ran bytes 704 Back 80000200 word 800001fc 80000048\n", "")
 
 
-def told_at_terminal(words, text):
+def told_at_terminal(words: list[str], text: str) -> tuple[str, bool]:
     """What the lab prints if standard error is a terminal, and whether the number of Steps stands there, grows and is wiped."""
     ours, theirs = pty.openpty()
     with tempfile.TemporaryFile() as it:
@@ -307,7 +307,8 @@ def test_bounds_the_run_of_a_plan() -> None:
     with tempfile.NamedTemporaryFile("w") as script:
         script.write(f"{ONE}ann config 01000703\n{booted}ann reset 0\n{booted}")
         script.flush()
-        traced = [lab(["trace", "--plan", script.name, *it]) for it in ([], ["--steps", "2000"], ["--steps", "5000"])]
+        words = ["trace", "--plan", script.name]
+        traced = [lab(words), lab([*words, "--steps", "2000"]), lab([*words, "--steps", "5000"])]
     shown = [sum(it.startswith("node ") for it in out.splitlines()) for _, out, _ in traced]
     ended = "stopped after 1000 Steps. --steps N traces more"
     assert (
@@ -362,6 +363,7 @@ def test_ends_at_ctrl_c() -> None:
             stderr=subprocess.PIPE,
             preexec_fn=lambda: signal.signal(signal.SIGINT, signal.SIG_DFL),
         )
+        assert going.stdin and going.stdout and going.stderr
         going.stdin.write(given.encode())
         going.stdin.close()
         time.sleep(0.5)

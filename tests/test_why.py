@@ -6,8 +6,9 @@ record. Where a sentence has the number of an event, {lost}, {fault} and the lik
 import os
 import re
 import tempfile
+from collections.abc import Iterable
 
-from support.recorded import JOINED, ONE, SETTLE, TWO, assembled, boot, by_hand, lab, recorded
+from support.recorded import JOINED, ONE, SETTLE, TWO, assembled, boot, by_hand, events_in, lab, loaded, recorded
 from support.trials import put
 
 # Waits for a byte of link 0, and then sends one there: in stands at 8000004e, outbyte at 80000053.
@@ -163,22 +164,19 @@ FOREVER_CODE = "b325f8" "41a4" "47d1" "600a" "21f5"
 class Counted:
     """What a record says of its events, by their numbers from 1."""
 
-    def __init__(self, record):
-        self.events = []
-        for line in record.split("---\n")[1].splitlines():
-            times, event = re.fullmatch(r"(?:(\d+) times )?0 (.*)", line).groups()
-            self.events += [event] * int(times or 1)
+    def __init__(self, record: str) -> None:
+        self.events = [it.removeprefix("0 ") for it in events_in(record)]
 
-    def last(self, pattern):
+    def last(self, pattern: str) -> int:
         """The number of the last event that is so."""
         return max((n for n, event in enumerate(self.events, 1) if re.match(pattern, event)), default=0)
 
-    def behind(self, event, pattern):
+    def behind(self, event: int, pattern: str) -> int:
         """How many events behind that of this number are so."""
         return sum(1 for it in self.events[event:] if re.match(pattern, it))
 
 
-def why(record, at=None, programs=()):
+def why(record: str, at: int | None = None, programs: Iterable[tuple[str, str]] = ()) -> tuple[int | None, str, str]:
     """Status, standard output and standard error of `lab why`; `programs` are pairs of a file's name and its text, that of node 0 first."""
     with tempfile.TemporaryDirectory() as folder:
         path = os.path.join(folder, "ann.replay")
@@ -191,7 +189,7 @@ def why(record, at=None, programs=()):
         return status, out, errors.replace(folder, "FOLDER")
 
 
-def told(record, at=None, programs=()):
+def told(record: str, at: int | None = None, programs: Iterable[tuple[str, str]] = ()) -> str:
     """What is printed of a record, behind its first line, which counts the events."""
     status, out, errors = why(record, at, programs)
     if status != 0:
@@ -642,11 +640,6 @@ def test_within_a_line() -> None:
     )
 
 
-def loaded(code):
-    """The line that boots a node with code."""
-    return f"0 writes 0 {len(code) // 2:02x}{code}"
-
-
 def test_lines_of_processes() -> None:
     """Below what is said without a program, a line for each process that waits."""
     record = recorded(ONE, [JOINED, loaded(BOTH_SEND_CODE), SETTLE])
@@ -701,9 +694,11 @@ def test_line_of_an_instance() -> None:
 def test_lines_of_two_nodes() -> None:
     """Node 0 has a program of assembly, whose `in` is line 7, and node 1 none that runs. Of another program that is said, and no line."""
     record = recorded(TWO, [JOINED, boot(WAIT_INSIDE), SETTLE])
-    last = lambda *programs: [
-        it for it in told(record, programs=programs).splitlines() if it.startswith("node 0 at") or "node 1 at" in it
-    ]
+
+    def last(*programs: tuple[str, str]) -> list[str]:
+        lines = told(record, programs=programs).splitlines()
+        return [it for it in lines if it.startswith("node 0 at") or "node 1 at" in it]
+
     assert repr((last(("one.s", WAIT_INSIDE), ("two.occ", FOREVER)), last(("one.occ", FOREVER)))) == repr(
         (
             ["node 0 at 8000004f waits in line 7: in"],
@@ -751,7 +746,10 @@ def test_faults() -> None:
     )
     record = recorded(ONE, [JOINED, boot(END), SETTLE])
     first = record[: record.index("---\n")].count("\n") + 2
-    with_line = lambda line: record.replace("---\n", f"---\n{line}\n")
+
+    def with_line(line: str) -> str:
+        return record.replace("---\n", f"---\n{line}\n")
+
     rows = [
         (
             4,

@@ -1,15 +1,21 @@
 """What the judge of occam programs must find: rules of its interpreter that are changed, and code of programs that is changed. Scripts
 use `changed_rules` and `spoilt_texts`."""
 import re
+from collections.abc import Callable, Iterator
 from dataclasses import replace
+from typing import TypeVar
 
 from occam.meaning import read
 from occam.pieces import MOST_COST
-from occam.programs import make
-from occam.values import MOST_NEGATIVE, Rules, checked, wrapped
+from occam.programs import Made, make
+from occam.values import Dyadic, MOST_NEGATIVE, Monadic, Rules, checked, wrapped
+
+# What changes a text for the assembler, and a program with such a text.
+Change = Callable[[str], str]
+Whole = TypeVar("Whole")
 
 
-def dyadic(**changes):
+def dyadic(**changes: Dyadic) -> Rules:
     """Rules with other dyadic operators."""
     names = {
         "minus": "-",
@@ -34,7 +40,7 @@ def dyadic(**changes):
     return rules
 
 
-def monadic(**changes):
+def monadic(**changes: Monadic) -> Rules:
     rules = Rules()
     rules.monadic.update({{"negated": "-", "inverted": "~"}.get(name, name): it for name, it in changes.items()})
     return rules
@@ -108,7 +114,7 @@ CHANGES = {
 }
 
 
-def is_other(made, rules):
+def is_other(made: Made, rules: Rules) -> bool:
     """Whether a program means something else by other rules."""
     # a constant may not exist by other rules, which is a difference too
     try:
@@ -117,12 +123,12 @@ def is_other(made, rules):
         return True
     if made.talk.is_loose:
         # the farm may send any beginning of what is said
-        is_other = any(not made.talk.said.get(link, b"").startswith(it) for link, it in talk.said.items())
-        return is_other or talk.end != made.talk.end
+        differs = any(not made.talk.said.get(link, b"").startswith(it) for link, it in talk.said.items())
+        return differs or talk.end != made.talk.end
     return (talk.said, talk.end) != (made.talk.said, made.talk.end)
 
 
-def changed_rules(seed, programs):
+def changed_rules(seed: int, programs: int) -> Iterator[tuple[str, int | None]]:
     """Each change of a rule, with the seed of the first program that finds it, or none."""
     made = [make(it) for it in range(seed, seed + programs)]
     for name, rules in CHANGES.items():
@@ -140,53 +146,54 @@ INSTRUCTION = re.compile(
 )
 
 
-def codes_of(text):
+def label_of(line: str) -> str:
+    """What stands before the instruction of a line."""
+    found = INSTRUCTION.match(line)
+    assert found, line
+    return found["label"]
+
+
+def codes_of(text: str) -> Iterator[tuple[str, str]]:
     """The lines of a text for the assembler, each with its instruction, or an empty one."""
     for line in text.splitlines():
         found = INSTRUCTION.match(line) if line.strip() and not line.lstrip().startswith("--") else None
         yield line, " ".join(found["code"].split()) if found else ""
 
 
-def exchanged(**others):
+def exchanged(**others: str) -> Change:
     """Puts other instructions, which `/` divides, for some."""
 
-    def change(text):
+    def change(text: str) -> str:
         lines = []
         for line, code in codes_of(text):
             new = others.get(code.replace(" ", "_"))
             if new is None:
                 lines.append(line)
             else:
-                found = INSTRUCTION.match(line)
-                lines += [found["label"], *new.split("/")]
+                lines += [label_of(line), *new.split("/")]
         return "\n".join(lines) + "\n"
 
     return change
 
 
-def without(*pattern):
+def without(*pattern: str) -> Change:
     """Leaves out the first instructions of each place where some follow one another: those of the pattern that begin with a minus."""
 
-    def change(text):
+    def change(text: str) -> str:
         pairs = list(codes_of(text))
         real = [at for at, (_, code) in enumerate(pairs) if code]
-        left_out = set()
+        left_out: set[int] = set()
         for begin in range(len(real) - len(pattern) + 1):
             places = real[begin : begin + len(pattern)]
             wanted = [it.removeprefix("-") for it in pattern]
             if all(re.fullmatch(want, pairs[at][1]) for want, at in zip(wanted, places)):
                 left_out.update(at for want, at in zip(pattern, places) if want.startswith("-"))
-        return (
-            "\n".join(
-                INSTRUCTION.match(line)["label"] if at in left_out else line for at, (line, _) in enumerate(pairs)
-            )
-            + "\n"
-        )
+        return "\n".join(label_of(line) if at in left_out else line for at, (line, _) in enumerate(pairs)) + "\n"
 
     return change
 
 
-def shared_words(text):
+def shared_words(text: str) -> str:
     """The highest word of the workspace becomes the one below it."""
     words = [int(code.split()[1]) for _, code in codes_of(text) if re.fullmatch(r"(?:stl|ldl) \d+", code)]
     if not words or max(words) < 2:
@@ -195,10 +202,10 @@ def shared_words(text):
     return exchanged(**{f"{name}_{most}": f"{name} {most - 1}" for name in ("stl", "ldl", "ldlp")})(text)
 
 
-def followed(count, *after):
+def followed(count: int, *after: str) -> Change:
     """Changes the constant before some instructions."""
 
-    def change(text):
+    def change(text: str) -> str:
         pairs = list(codes_of(text))
         real = [at for at, (_, code) in enumerate(pairs) if code]
         lines = [line for line, _ in pairs]
@@ -211,13 +218,13 @@ def followed(count, *after):
                 and all(re.fullmatch(*it) for it in zip(after, behind))
                 and int(found[1]) + count > 0
             ):
-                lines[at] = f"{INSTRUCTION.match(pairs[at][0])['label']}ldc {int(found[1]) + count}"
+                lines[at] = f"{label_of(pairs[at][0])}ldc {int(found[1]) + count}"
         return "\n".join(lines) + "\n"
 
     return change
 
 
-def exchanged_addresses(text):
+def exchanged_addresses(text: str) -> str:
     """The addresses of a copy, the one for the other."""
     pairs = list(codes_of(text))
     real = [at for at, (_, code) in enumerate(pairs) if code]
@@ -226,14 +233,14 @@ def exchanged_addresses(text):
         codes = [pairs[at][1] for at in places]
         if re.match("ldlp", codes[0]) and re.match("ldlp", codes[1]) and codes[3] == "move":
             for at, code in zip(places, (codes[1], codes[0])):
-                lines[at] = INSTRUCTION.match(pairs[at][0])["label"] + code
+                lines[at] = label_of(pairs[at][0]) + code
     return "\n".join(lines) + "\n"
 
 
-def counted(more):
+def counted(more: int) -> Change:
     """Changes how many components a PAR waits for."""
 
-    def change(text):
+    def change(text: str) -> str:
         pairs = list(codes_of(text))
         real = [at for at, (_, code) in enumerate(pairs) if code]
         lines = [line for line, _ in pairs]
@@ -241,13 +248,13 @@ def counted(more):
             codes = [pairs[at][1] for at in places]
             found = re.fullmatch(r"ldc (\d+)", codes[2])
             if codes[0] == "ldpi" and codes[1].startswith("stl ") and found and codes[3].startswith("stl "):
-                lines[places[2]] = f"{INSTRUCTION.match(pairs[places[2]][0])['label']}ldc {int(found[1]) + more}"
+                lines[places[2]] = f"{label_of(pairs[places[2]][0])}ldc {int(found[1]) + more}"
         return "\n".join(lines) + "\n"
 
     return change
 
 
-def further_down(text):
+def further_down(text: str) -> str:
     """The own words of components are one word further down than their code means."""
     pairs = list(codes_of(text))
     real = [at for at, (_, code) in enumerate(pairs) if code]
@@ -255,26 +262,25 @@ def further_down(text):
     for at, behind in zip(real, real[1:]):
         found = re.fullmatch(r"ldlp -(\d+)", pairs[at][1])
         if found and pairs[behind][1] == "startp":
-            lines[at] = f"{INSTRUCTION.match(pairs[at][0])['label']}ldlp -{int(found[1]) + 1}"
+            lines[at] = f"{label_of(pairs[at][0])}ldlp -{int(found[1]) + 1}"
     return "\n".join(lines) + "\n"
 
 
-def without_moves(text):
+def without_moves(text: str) -> str:
     """The workspace isn't moved back at the end of a PAR."""
     pairs = list(codes_of(text))
     moves = [at for at, (_, code) in enumerate(pairs) if code.startswith("ajw ")][1:]
-    return (
-        "\n".join(INSTRUCTION.match(line)["label"] if at in moves else line for at, (line, _) in enumerate(pairs))
-        + "\n"
-    )
+    return "\n".join(label_of(line) if at in moves else line for at, (line, _) in enumerate(pairs)) + "\n"
 
 
-def last_first(text):
+def last_first(text: str) -> str:
     """The guards of an ALT are looked at from the last to the first."""
-    lines, group, groups = [], [], None
+    lines: list[str] = []
+    group: list[str] = []
+    groups: list[list[str]] | None = None
     for line, code in codes_of(text):
         if code == "altend":
-            lines += [it for one in reversed(groups) for it in one] + group
+            lines += [it for one in reversed(groups or []) for it in one] + group
             group, groups = [], None
         if groups is None:
             lines.append(line)
@@ -339,7 +345,7 @@ SPOILT = {
 }
 
 
-def spoilt_texts(texts):
+def spoilt_texts(texts: list[tuple[Whole, str]]) -> Iterator[tuple[str, list[tuple[Whole, str]]]]:
     """Each change of code, with the programs whose text it changes. Texts are pairs of a program and its text."""
     for name, change in SPOILT.items():
         pairs = [(program, change(text)) for program, text in texts]

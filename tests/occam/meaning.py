@@ -6,31 +6,35 @@ Runs the program of a file. What comes at link N is given as N=HEX. Prints what 
 bytes of input are taken. Scripts use `read`, which gives a program from its text, and `run`.
 """
 import sys
+from collections.abc import Callable, Iterable, Iterator
 
 from occam.expressions import (
-    Expressions,
+    Finds,
     Kind,
     LINKS,
-    MOST_ELEMENTS,
     Name,
+    Place,
     Procedure,
     Root,
+    Scope,
     UNKNOWN,
+    Value,
     Wrong,
     statements_of,
 )
-from occam.processes import Processes
-from occam.running import INSIDE, Program, Talk, after, halt, sequence, skip, talks
-from occam.uses import Uses
+from occam.processes import Processes, Undo, Wire
+from occam.running import INSIDE, Machine, Process, Program, Steps, Talk, after, halt, sequence, skip, talks
 from occam.values import BOOL, BYTE, Halts, INT, Rules, wrapped
 
 
-class Reader(Expressions, Processes, Uses):
+class Reader(Processes):
     """Reads the statements of a text into what runs them."""
 
-    def __init__(self, text, rules):
+    def __init__(self, text: str, rules: Rules) -> None:
         self.rules, self.statements, self.at, self.slots = rules, statements_of(text), 0, 0
-        self.tokens, self.here, self.places, self.named, self.tables = [], 0, {}, [], []
+        self.tokens, self.here, self.tables = [], 0, []
+        self.places: dict[int, str] = {}
+        self.named: list[tuple[int, tuple[int, ...], bool]] = []
         # how many words the variables have, as long as it is certain which have words, and what the expression that is read names
         self.words, self.is_certain, self.used = 0, True, set()
         # how many PROCs are put in place around what is read, and whether the body of one is read by itself
@@ -40,21 +44,12 @@ class Reader(Expressions, Processes, Uses):
 
     # -- processes
 
-    def next(self, indent):
-        """Takes the next statement if it has this indentation, and says whether it did."""
-        if self.at >= len(self.statements) or self.statements[self.at][0] < indent:
-            return False
-        found, self.tokens = self.statements[self.at]
-        self.here = 0
-        if found != indent:
-            self.fail(f"expected {indent} blanks")
-        self.at += 1
-        return True
-
-    def process(self, indent, scope, level):
+    def process(self, indent: int, scope: Scope, level: int) -> Process:
         if not self.next(indent):
             raise Wrong(self.lines, "expected a process")
-        begins, undo, block = [], [], []
+        begins: list[Process] = []
+        undo: Undo = []
+        block: list[Name] = []
         while self.peek() in ("INT", "BYTE", "BOOL", "CHAN", "PLACE", "VAL", "PROC", "["):
             with self.at_any_line():
                 scope = self.declaration(indent, scope, level, begins, undo, block)
@@ -65,7 +60,7 @@ class Reader(Expressions, Processes, Uses):
         if word in ("SKIP", "STOP"):
             self.take()
             self.end()
-            body = skip if word == "SKIP" else halt
+            body: Process = skip if word == "SKIP" else halt
         elif word in ("SEQ", "IF", "WHILE", "PAR", "ALT", "PRI"):
             self.take()
             body = {
@@ -82,7 +77,9 @@ class Reader(Expressions, Processes, Uses):
             it()
         return after(begins, body) if begins else body
 
-    def declaration(self, indent, scope, level, begins, undo, block):
+    def declaration(
+        self, indent: int, scope: Scope, level: int, begins: list[Process], undo: Undo, block: list[Name]
+    ) -> Scope:
         if self.peek() == "PLACE":
             self.take()
             return self.place(scope, level)
@@ -95,7 +92,7 @@ class Reader(Expressions, Processes, Uses):
             return self.abbreviation(kind, scope, begins, undo)
         if 0 in (kind.size, kind.many):
             self.fail("expected a size")
-        scope, old, names = dict(scope), scope, set()
+        scope, names = dict(scope), set[str]()
         while True:
             name = self.name()
             if name in names:
@@ -112,7 +109,7 @@ class Reader(Expressions, Processes, Uses):
         self.end()
         return scope
 
-    def kind(self, scope):
+    def kind(self, scope: Scope) -> Kind:
         """A type."""
         size = self.bracket(scope) if self.peek() == "[" else None
         if self.peek() == "CHAN":
@@ -121,25 +118,12 @@ class Reader(Expressions, Processes, Uses):
             self.fail("expected INT, BYTE or BOOL")
         return Kind(self.take().text, size)
 
-    def bracket(self, scope):
-        """A size in brackets, or 0 if there is none."""
-        self.take("[")
-        size = 0
-        if self.peek() != "]":
-            size = self.expression(scope, INT).constant
-            if size is None and self.is_by_itself:
-                size = UNKNOWN
-            elif size is None or not 1 <= size <= MOST_ELEMENTS:
-                self.fail("expected a constant size")
-        self.take("]")
-        return size
-
-    def new_root(self, name):
+    def new_root(self, name: Name) -> Name:
         name.root = Root()
         name.root.names.append(name)
         return name
 
-    def variable(self, kind):
+    def variable(self, kind: Kind) -> Name:
         many = 1 if kind.size == UNKNOWN else kind.size or 1
         first = self.cells(many)
         if self.is_certain:
@@ -153,32 +137,13 @@ class Reader(Expressions, Processes, Uses):
             self.words += len(pieces)
         return self.new_root(Name("array" if kind.size else "variable", kind.type, first, size=kind.size))
 
-    def cells(self, count):
-        self.slots += count
-        return self.slots - count
-
-    def fitting(self, place, kind):
-        """Whether a whole array has a type."""
-        is_known = kind.size != UNKNOWN and place.size != UNKNOWN
-        if place.type != kind.type or kind.size is None or kind.size and is_known and kind.size != place.size:
-            self.fail("expected another type")
-
-    def freeze(self, roots, undo):
-        for root in roots:
-            root.frozen += 1
-
-        def thaw():
-            for root in roots:
-                root.frozen -= 1
-
-        undo.append(thaw)
-
-    def rename(self, name, undo):
+    def rename(self, name: Name, undo: Undo) -> None:
         """Makes a name the one by which something is known."""
+        assert name.root
         name.root.names.append(name)
         undo.append(name.root.names.pop)
 
-    def val(self, scope, begins, undo):
+    def val(self, scope: Scope, begins: list[Process], undo: Undo) -> Scope:
         self.take("VAL")
         kind = None if self.peek(1) == "IS" else self.kind(scope)
         name = self.name()
@@ -188,7 +153,7 @@ class Reader(Expressions, Processes, Uses):
         self.end()
         return {**scope, name: bound}
 
-    def bound_value(self, kind, scope, begins, undo):
+    def bound_value(self, kind: Kind | None, scope: Scope, begins: list[Process], undo: Undo) -> Name:
         """What a name is that is an abbreviation of a value."""
         before, self.used = self.used, set()
         if self.is_whole(scope):
@@ -199,7 +164,7 @@ class Reader(Expressions, Processes, Uses):
             first = self.here
             if kind and kind.size is not None:
                 self.fail("expected an array")
-            value = self.expression(scope, kind and kind.type)
+            value = self.expression(scope, kind.type if kind else None)
             if value.constant is not None:
                 bound = Name("constant", value.type, value.constant)
             else:
@@ -210,18 +175,18 @@ class Reader(Expressions, Processes, Uses):
         self.used = before | self.used
         return bound
 
-    def new_value(self, value, begins):
+    def new_value(self, value: Value, begins: list[Process]) -> Name:
         self.is_certain = False
         cell, of, cost = self.cells(1), value.of, value.cost + 2
 
-        def evaluate(machine):
+        def evaluate(machine: Machine) -> None:
             machine.spend(cost)
             machine.store[cell] = of(machine.store)
 
-        begins.append(evaluate if self.rules.is_evaluated else lambda machine: None)
+        begins.append(evaluate if self.rules.is_evaluated else skip)
         return Name("value", value.type, cell)
 
-    def abbreviation(self, kind, scope, begins, undo):
+    def abbreviation(self, kind: Kind, scope: Scope, begins: list[Process], undo: Undo) -> Scope:
         name = self.name()
         self.take("IS")
         bound = self.bound_element(kind, scope, begins, undo)
@@ -229,14 +194,15 @@ class Reader(Expressions, Processes, Uses):
         self.end()
         return {**scope, name: bound}
 
-    def bound_element(self, kind, scope, begins, undo):
+    def bound_element(self, kind: Kind, scope: Scope, begins: list[Process], undo: Undo) -> Name:
         """What a name is that is an abbreviation of a variable, an element, an array or a channel."""
         if kind.is_channel:
             return self.bound_channel(kind, scope, begins, undo)
         before, self.used = self.used, set()
         place = self.element(scope)
         self.change(place)
-        root, used = place.name.root, self.used - {place.name.root}
+        root = place.name.root
+        used = {it for it in self.used if it is not root}
         self.used = before | self.used
         if kind.size is not None:
             if place.size is None:
@@ -251,21 +217,21 @@ class Reader(Expressions, Processes, Uses):
         self.rename(bound, undo)
         return bound
 
-    def found_once(self, place, begins):
+    def found_once(self, place: Place, begins: list[Process]) -> int | Finds:
         """A cell that is found at one time."""
-        if not callable(place.cell):
+        if isinstance(place.cell, int):
             return place.cell
         self.is_certain = False
         hidden, cell, cost = self.cells(1), place.cell, place.cost
 
-        def evaluate(machine):
+        def evaluate(machine: Machine) -> None:
             machine.spend(cost)
             machine.store[hidden] = cell(machine.store)
 
         begins.append(evaluate)
         return lambda store: store[hidden]
 
-    def procedure(self, indent, scope):
+    def procedure(self, indent: int, scope: Scope) -> Scope:
         self.take("PROC")
         name = self.name()
         self.take("(")
@@ -284,7 +250,7 @@ class Reader(Expressions, Processes, Uses):
         self.by_itself(procedure)
         return {**scope, name: procedure}
 
-    def by_itself(self, procedure):
+    def by_itself(self, procedure: Procedure) -> None:
         """Reads the body of a PROC for what doesn't depend on an instance."""
         kept = self.depth, self.is_by_itself, self.is_certain, self.words, [*self.tables], self.slots
         self.depth, self.is_by_itself, self.is_certain, inner = 0, True, False, dict(procedure.scope)
@@ -303,7 +269,7 @@ class Reader(Expressions, Processes, Uses):
         self.body_of(procedure, inner)
         self.depth, self.is_by_itself, self.is_certain, self.words, self.tables, self.slots = kept
 
-    def body_of(self, procedure, inner):
+    def body_of(self, procedure: Procedure, inner: Scope) -> Process:
         """The body of a PROC, in a scope."""
         kept = self.at, self.tokens, self.here
         self.at = procedure.first
@@ -313,8 +279,9 @@ class Reader(Expressions, Processes, Uses):
         self.at, self.tokens, self.here = kept
         return body
 
-    def formals(self, scope):
-        formals, kind = [], None
+    def formals(self, scope: Scope) -> list[tuple[Kind, str]]:
+        formals: list[tuple[Kind, str]] = []
+        kind: Kind | None = None
         while True:
             is_val = self.peek() == "VAL"
             if is_val:
@@ -331,18 +298,21 @@ class Reader(Expressions, Processes, Uses):
                 return formals
             self.take()
 
-    def instance(self, scope):
-        """A PROC put in place."""
-        called = self.name()
-        known = scope[called]
+    def instance(self, known: Procedure, scope: Scope) -> Process:
+        """A PROC put in place, whose name comes."""
+        self.take()
         self.take("(")
-        begins, undo, inner = [], [], dict(known.scope if self.rules.is_read_there else scope)
+        begins: list[Process] = []
+        undo: Undo = []
+        inner = dict(known.scope if self.rules.is_read_there else scope)
         with self.at_any_line():
             for at, (kind, name) in enumerate(known.formals):
                 if at:
                     self.take(",")
-                bind = self.bound_value if kind.is_val else self.bound_element
-                inner[name] = bind(kind, scope, begins, undo)
+                if kind.is_val:
+                    inner[name] = self.bound_value(kind, scope, begins, undo)
+                else:
+                    inner[name] = self.bound_element(kind, scope, begins, undo)
         self.take(")")
         self.end()
         self.is_certain = False
@@ -358,7 +328,7 @@ class Reader(Expressions, Processes, Uses):
             it()
         return after(begins, body)
 
-    def place(self, scope, level):
+    def place(self, scope: Scope, level: int) -> Scope:
         channel = self.known(scope)
         self.take("AT")
         place = self.expression(scope, INT).constant
@@ -367,8 +337,9 @@ class Reader(Expressions, Processes, Uses):
             or not 0 <= place < 8
             or place in self.places
             or level
+            or not isinstance(channel, Name)
             or channel.kind != "channel"
-            or channel.number < INSIDE
+            or channel.first < INSIDE
             or channel.many is not None
         ):
             self.fail("expected a place from 0 to 7")
@@ -378,7 +349,7 @@ class Reader(Expressions, Processes, Uses):
         self.end()
         return scope
 
-    def in_sequence(self, indent, scope):
+    def in_sequence(self, indent: int, scope: Scope) -> Process:
         if self.here < len(self.tokens):
             return self.replicated(indent, scope)
         parts = []
@@ -386,7 +357,7 @@ class Reader(Expressions, Processes, Uses):
             parts.append(self.process(indent + 2, scope, 1))
         return sequence(parts)
 
-    def replicated(self, indent, scope):
+    def replicated(self, indent: int, scope: Scope) -> Process:
         name = self.name()
         self.take("=")
         base = self.expression(scope, INT)
@@ -395,12 +366,13 @@ class Reader(Expressions, Processes, Uses):
         self.end()
         slot = self.cells(1)
         self.words += 2
-        is_known = base.constant is not None and count.constant is not None
-        span = (base.constant, base.constant + count.constant - 1) if is_known else None
+        span = None
+        if base.constant is not None and count.constant is not None:
+            span = base.constant, base.constant + count.constant - 1
         body = self.process(indent + 2, {**scope, name: Name("index", INT, slot, span=span)}, 1)
         first, turns, cost, rules = base.of, count.of, base.cost + count.cost + 12, self.rules
 
-        def every(machine):
+        def every(machine: Machine) -> Iterator[None]:
             machine.spend(cost)
             begin, many = first(machine.store), turns(machine.store)
             if many < 0 and rules.halts_at_negative:
@@ -412,9 +384,9 @@ class Reader(Expressions, Processes, Uses):
 
         return repeated(every, body)
 
-    def conditional(self, indent, scope):
+    def conditional(self, indent: int, scope: Scope) -> Process:
         self.end()
-        choices = []
+        choices: list[tuple[Finds, int, Process]] = []
         while self.at < len(self.statements) and self.statements[self.at][0] > indent:
             self.next(indent + 2)
             with self.at_any_line():
@@ -423,7 +395,7 @@ class Reader(Expressions, Processes, Uses):
             choices.append((condition.of, condition.cost + 6, self.process(indent + 4, scope, 1)))
         rules = self.rules
 
-        def chosen(machine):
+        def chosen(machine: Machine) -> Process:
             for condition, cost, process in choices:
                 machine.spend(cost)
                 if condition(machine.store):
@@ -434,12 +406,12 @@ class Reader(Expressions, Processes, Uses):
 
         return choosing(chosen, any(talks(it[2]) for it in choices))
 
-    def loop(self, indent, scope):
+    def loop(self, indent: int, scope: Scope) -> Process:
         condition = self.expression(scope, BOOL)
         self.end()
         goes_on, cost, body, rules = condition.of, condition.cost + 6, self.process(indent + 2, scope, 1), self.rules
 
-        def every(machine):
+        def every(machine: Machine) -> Iterator[None]:
             if not rules.tests_first:
                 yield
             machine.spend(cost)
@@ -449,10 +421,10 @@ class Reader(Expressions, Processes, Uses):
 
         return repeated(every, body)
 
-    def simple(self, scope):
+    def simple(self, scope: Scope) -> Process:
         known = scope.get(self.peek())
-        if known is not None and known.kind == "proc":
-            return self.instance(scope)
+        if isinstance(known, Procedure):
+            return self.instance(known, scope)
         if known is None or known.kind != "channel":
             return self.assignment(scope)
         wire, sign = self.wire(scope), self.take().text
@@ -461,7 +433,7 @@ class Reader(Expressions, Processes, Uses):
         self.directed(wire, sign)
         return (self.output if sign == "!" else self.input)(wire, scope)
 
-    def assignment(self, scope):
+    def assignment(self, scope: Scope) -> Process:
         place = self.element(scope)
         self.change(place)
         self.use("changes", place.region)
@@ -472,14 +444,14 @@ class Reader(Expressions, Processes, Uses):
         self.end()
         cell, of, cost = place.cell_of(), value.of, value.cost + place.cost + 1
 
-        def run(machine):
+        def run(machine: Machine) -> None:
             machine.spend(cost)
             number = of(machine.store)
             machine.store[cell(machine.store)] = number
 
         return run
 
-    def copy(self, place, scope):
+    def copy(self, place: Place, scope: Scope) -> Process:
         """An array assigned to another."""
         if not self.is_whole(scope) or self.tokens[self.here].kind != "name":
             self.fail("expected an array")
@@ -487,79 +459,78 @@ class Reader(Expressions, Processes, Uses):
         self.end()
         self.fitting(source, Kind(place.type, place.size))
         self.use("reads", source.region)
-        to, begin, many = place.cell, source.cell, place.size
+        to, begin, many = place.first, source.first, place.size or 0
         cost = 6 + 4 * many
         many -= 0 if self.rules.copies_all else 1
 
-        def run(machine):
+        def run(machine: Machine) -> None:
             machine.spend(cost)
             machine.store[to : to + many] = machine.store[begin : begin + many]
 
         return run
 
 
-class Prelude:
+class Prelude(Procedure):
     """A PROC that each program knows: its formals, and what it sends of its first actual."""
 
-    kind = "proc"
+    def __init__(self, first: Kind, text_of: Callable[[list[int], Rules], Iterable[int]]) -> None:
+        super().__init__([(first, "it"), (Kind(BYTE, None, True), "to")], 0, 0, 0, {})
+        self.text_of = text_of
 
-    def __init__(self, first, text_of):
-        self.formals = [(first, "it"), (Kind(BYTE, None, True), "to")]
-        self.scope, self.text_of = {}, text_of
-
-    def body(self, inner, reader):
+    def body(self, inner: Scope, reader: Reader) -> Process:
+        """What sends the text of its first actual."""
         to, given, text_of, rules = inner["to"], inner["it"], self.text_of, reader.rules
+        assert isinstance(to, Name) and isinstance(given, Name)
         with reader.at_any_line():
-            reader.use("sends", to.region or isinstance(to.number, int) and (to.number, to.number + 1) or None)
+            reader.use("sends", to.region or ((to.number, to.number + 1) if isinstance(to.number, int) else None))
             if given.kind == "table":
-                reader.use("reads", (given.number, given.number + given.size))
+                reader.use("reads", (given.first, given.first + (given.size or 0)))
         if not reader.is_by_itself and isinstance(to.number, int) and 3 < to.number < INSIDE:
             reader.fail("expected a channel at an output")
-        if given.kind == "constant":
-            of = lambda store: given.number
-        elif given.size is not None:
-            of = lambda store: store[given.number : given.number + given.size]
-        else:
-            of = lambda store: store[given.number]
-        link = to.number if callable(to.number) else lambda store: to.number
+        first, size, is_constant = given.first, given.size, given.kind == "constant"
+        link = Wire(to.type, None, to.number, 0, to).number_of()
 
-        def steps(machine):
-            for it in text_of(of(machine.store), rules):
+        def steps(machine: Machine) -> Steps:
+            store = machine.store
+            numbers = [first] if is_constant else store[first : first + (1 if size is None else size)]
+            for it in text_of(numbers, rules):
                 machine.spend(40)
-                yield "say", link(machine.store), [it], 1
+                yield "say", link(store), [it], 1
 
         return steps
 
 
 PRELUDE = {
     "out.string": Prelude(Kind(BYTE, 0, is_val=True), lambda given, rules: given),
-    "out.int": Prelude(Kind(INT, is_val=True), lambda given, rules: rules.digits(given).encode()),
+    "out.int": Prelude(Kind(INT, is_val=True), lambda given, rules: rules.digits(given[0]).encode()),
 }
 
 
-def repeated(every, body):
+def repeated(every: Callable[[Machine], Iterator[None]], body: Process) -> Process:
     """A process each time that something comes."""
     if not talks(body):
 
-        def run(machine):
+        def run(machine: Machine) -> None:
             for _ in every(machine):
                 body(machine)
 
         return run
 
-    def steps(machine):
+    talking = body
+
+    def steps(machine: Machine) -> Steps:
         for _ in every(machine):
-            yield from body(machine)
+            yield from talking(machine)
 
     return steps
 
 
-def choosing(chosen, is_talking):
+def choosing(chosen: Callable[[Machine], Process], is_talking: bool) -> Process:
     """The process that is chosen."""
     if not is_talking:
         return lambda machine: chosen(machine)(machine)
 
-    def steps(machine):
+    def steps(machine: Machine) -> Steps:
         process = chosen(machine)
         if talks(process):
             yield from process(machine)
@@ -569,17 +540,17 @@ def choosing(chosen, is_talking):
     return steps
 
 
-def read(text, rules=None):
+def read(text: str, rules: Rules | None = None) -> Program:
     """The program of a text."""
     reader = Reader(text, rules or Rules())
-    scope = {**{name: Name("constant", INT, place) for name, place in LINKS.items()}, **PRELUDE}
+    scope: Scope = {**{name: Name("constant", INT, place) for name, place in LINKS.items()}, **PRELUDE}
     body = reader.process(0, scope, 0)
     if reader.at != len(reader.statements):
         raise Wrong(reader.statements[reader.at][1][0].line, "expected nothing behind the program's process")
     return Program(body, reader.slots, reader.named, reader.places, reader.tables, reader.rules, reader.clashes)
 
 
-def main(words):
+def main(words: list[str]) -> int:
     if not words or any("=" not in it for it in words[1:]):
         sys.exit(__doc__)
     with open(words[0], encoding="utf-8", newline="") as file:

@@ -21,7 +21,7 @@ class Division:
 class ParallelWriter(Traces, Networks, Writer):
     """Writes one program in which processes run at the same time."""
 
-    def __init__(self, seed):
+    def __init__(self, seed: int | str) -> None:
         super().__init__(seed)
         # how many processes of a PAR are still to come for certain
         self.wanted = self.random.choice((1, 2, 2, 3, 4))

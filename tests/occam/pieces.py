@@ -147,7 +147,7 @@ UNARY = "\0"
 class Part:
     """An expression: its tokens, the span of its numbers, whether it is an operand, and whether it is constant."""
 
-    tokens: list
+    tokens: list[str]
     low: int = 0
     high: int = 1
     is_operand: bool = True
@@ -160,11 +160,11 @@ class Variable:
 
     name: str
     type: str
-    span: tuple = WHOLE
+    span: tuple[int, int] = WHOLE
     is_free: bool = True
     # of an array: how many elements it has, or 0 if that isn't known where it is used; of an index: the array over which it goes
     size: int | None = None
-    over: object = None
+    over: "Variable | None" = None
     is_constant: bool = False
 
 
@@ -173,8 +173,8 @@ class Proc:
     """A PROC: its name, its formals, each with its way, type and size, and what of the names around it its body uses, and may change."""
 
     name: str
-    formals: list
-    used: set
+    formals: list[tuple[str, str, int | None]]
+    used: set["Variable | Proc"]
     type: str = "PROC"
     is_free: bool = False
     size: int | None = None

@@ -9,14 +9,14 @@ from occam.values import BOOL, BYTE, INT
 class Printer:
     """Prints the lines of a program, in a style of its own."""
 
-    def __init__(self, seed):
+    def __init__(self, seed: int | str) -> None:
         self.random = random.Random(f"{seed} printed")
         self.style = self.random.choice(("wide", "wide", "tight", "mixed"))
         self.breaks = self.random.choice((0, 0, 0.03, 0.15))
         self.remarks = self.random.choice((0, 0.05, 0.2))
         self.end = "\r\n" if self.random.random() < 0.15 else "\n"
 
-    def gap(self, left, right):
+    def gap(self, left: str, right: str) -> str:
         """What is between two tokens."""
         plain = left.lstrip(UNARY)
         is_needed = plain not in SIGNS and right.lstrip(UNARY) not in SIGNS
@@ -32,7 +32,7 @@ class Printer:
         return " " * self.random.choice((1, 1, 2, 3)) if is_needed else " " * self.random.choice((0, 0, 1, 2))
 
     @staticmethod
-    def goes_on(tokens, at):
+    def goes_on(tokens: list[str], at: int) -> bool:
         """Whether a line may end with this token."""
         token, before = tokens[at], tokens[at - 1] if at else "("
         if token == "MINUS":
@@ -47,7 +47,7 @@ class Printer:
             "IS",
         )
 
-    def line(self, indent, tokens):
+    def line(self, indent: int, tokens: list[str]) -> str:
         """The lines of text of a statement."""
         text = " " * indent
         for at, token in enumerate(tokens):
@@ -61,12 +61,12 @@ class Printer:
                 text += self.gap(token, tokens[at + 1])
         return text
 
-    def remark(self):
+    def remark(self) -> str:
         if self.random.random() < self.remarks:
             return " " * self.random.randrange(4) + "--" + self.random.choice(REMARKS)
         return " " if "blank at the end" in FEATURES and self.random.random() < 0.01 else ""
 
-    def text(self, lines):
+    def text(self, lines: list[tuple[int, list[str]]]) -> str:
         text = self.remark().lstrip() + self.end if self.remarks else ""
         for indent, tokens in lines:
             text += self.line(indent, tokens) + self.remark() + self.end

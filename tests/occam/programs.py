@@ -7,17 +7,19 @@ Prints the program of a seed with its input and what it means, or, with COUNT, h
 import sys
 import time
 from collections import Counter
+from collections.abc import Iterator, Sequence
 from dataclasses import dataclass
 
 from occam.expressions import Wrong
-from occam.meaning import Talk, read
+from occam.meaning import read
 from occam.parallel import ParallelWriter
 from occam.pieces import FEATURES, MOST_COST, MOST_SAID
 from occam.printing import Printer
+from occam.running import Program, Talk
 from occam.writing import Writer
 
 # How many programs of several processes were tried, and how many of them depend on the order in which processes take turns.
-COUNTS = Counter()
+COUNTS: Counter[str] = Counter()
 
 
 @dataclass
@@ -27,18 +29,18 @@ class Made:
 
     seed: int
     text: str
-    coming: dict
+    coming: dict[int, bytes]
     talk: Talk
     links: int
-    known: dict
+    known: dict[int, int]
 
 
-def is_parallel(seed):
+def is_parallel(seed: int | str) -> bool:
     """Whether the program of a seed has several processes: that of every other seed."""
     return "PAR" in FEATURES and int(str(seed).split("+", maxsplit=1)[0]) % 2 == 0
 
 
-def attempt(seed):
+def attempt(seed: int | str) -> Made | None:
     """The program of a seed, or none if it costs or says too much, has a constant that doesn't exist, or says what depends on the order
     in which its processes take turns."""
     writer = (ParallelWriter if is_parallel(seed) else Writer)(seed)
@@ -56,10 +58,11 @@ def attempt(seed):
         # it is to wait
         coming = {link: it[: writer.random.randrange(12)] for link, it in coming.items()}
     talks = all_talks(seed, program, coming)
-    talk = talks and talks[0]
+    if not talks:
+        return None
+    talk = talks[0]
     if (
-        not talk
-        or talk.end == "goes on"
+        talk.end == "goes on"
         or sum(map(len, talk.said.values())) > MOST_SAID
         or max(map(len, talk.said.values()), default=0) == 0
         and talk.end != "halted"
@@ -68,10 +71,10 @@ def attempt(seed):
     # just what it takes comes
     coming = {link: it[: talk.taken.get(link, 0)] for link, it in coming.items() if talk.taken.get(link)}
     known = {} if talk.end == "waits" or talk.is_loose else dict(words_of(program.named, talks))
-    return Made(seed, text, coming, talk, writer.links, known)
+    return Made(0, text, coming, talk, writer.links, known)
 
 
-def all_talks(seed, program, coming):
+def all_talks(seed: int | str, program: Program, coming: dict[int, bytes]) -> list[Talk] | None:
     """The talks of runs whose processes take turns in different orders, or none if something that may be seen depends on that. The
     first two differ in the first values of variables alone, and so not at all."""
     ways = [(0, False), (0, False), (1, True), (2, True)] if is_parallel(seed) else [(0, False), (0, False)]
@@ -87,7 +90,7 @@ def all_talks(seed, program, coming):
     return talks
 
 
-def words_of(named, talks):
+def words_of(named: Sequence[tuple[int, tuple[int, ...], bool]], talks: list[Talk]) -> Iterator[tuple[int, int]]:
     """The words that are known at the end, each with its number."""
     for word, cells, is_packed in named:
         numbers = [talks[0].store[it] for it in cells]
@@ -97,7 +100,7 @@ def words_of(named, talks):
             yield word, int.from_bytes(bytes(numbers), "little") if is_packed else numbers[0]
 
 
-def make(seed):
+def make(seed: int) -> Made:
     """The first program of a seed that is as it should be."""
     for again in range(100):
         made = attempt(seed if not again else f"{seed}+{again}")
@@ -107,7 +110,7 @@ def make(seed):
     raise ValueError(f"seed {seed} gives no program")
 
 
-def main(words):
+def main(words: list[str]) -> int:
     if not words:
         sys.exit(__doc__)
     seed = int(words[0])
@@ -116,7 +119,8 @@ def main(words):
         print(made.text)
         print(f"links {made.links}, coming {({link: it.hex() for link, it in made.coming.items()})}, {made.talk}")
         return 0
-    ends, lines, cost, begin = Counter(), 0, 0, time.monotonic()
+    ends: Counter[str] = Counter()
+    lines, cost, begin = 0, 0, time.monotonic()
     for it in range(seed, seed + int(words[1])):
         made = make(it)
         ends[made.talk.end] += 1

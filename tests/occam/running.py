@@ -3,11 +3,22 @@ import random
 from collections import deque
 from dataclasses import dataclass
 from inspect import isgeneratorfunction
+from collections.abc import Callable, Generator, Sequence
+from typing import Any, TypeGuard
 
-from occam.values import Halts
+from occam.uses import Clash
+from occam.values import Halts, Rules
 
 # Channels below this are those of links, and others are within the node.
 INSIDE = 8
+
+# What a process asks of the machine, which is one of its methods and what that takes, and what it is answered.
+Steps = Generator[tuple[Any, ...], Any, None]
+# A process that gives its steps, and any process.
+Talking = Callable[["Machine"], Steps]
+Process = Callable[["Machine"], Steps | None]
+# A guard of an ALT that is open: its number, and its channel, or none of SKIP.
+Guard = tuple[int, int | None]
 
 
 class GoesOn(Exception):
@@ -21,25 +32,27 @@ class Talk:
     went on here until none could, so that a node, which halts with all of them, has sent a beginning of what is said.
     """
 
-    said: dict
-    taken: dict
+    said: dict[int, bytes]
+    taken: dict[int, int]
     end: str
     cost: int
-    store: list
+    store: list[int]
     is_loose: bool = False
 
 
 class Task:
     """A process on its way: its steps, what its next one gets, the guards of an ALT that waits, and what waits for its end."""
 
-    def __init__(self, steps, join=None):
-        self.steps, self.join, self.answer, self.guards = steps, join, None, None
+    def __init__(self, steps: Steps, join: "Join | None" = None) -> None:
+        self.steps, self.join = steps, join
+        self.answer: list[int] | int | None = None
+        self.guards: list[Guard] | None = None
 
 
 class Join:
     """The end of a PAR: which task waits for it, and for how many of its components."""
 
-    def __init__(self, task, count):
+    def __init__(self, task: Task, count: int) -> None:
         self.task, self.count = task, count
 
 
@@ -47,24 +60,38 @@ class Machine:
     """A run on its way. Which process takes the next step is chosen by a seed, and by it which guard an ALT takes of those that are
     ready, or else the first is taken."""
 
-    def __init__(self, program, coming, most, first, seed=0, takes_any=False):
+    def __init__(
+        self,
+        program: "Program",
+        coming: dict[int, bytes],
+        most: int,
+        first: int,
+        seed: int = 0,
+        takes_any: bool = False,
+    ) -> None:
         self.store, self.coming, self.most = [first] * program.variables, coming, most
         for begin, numbers in program.tables:
             self.store[begin : begin + len(numbers)] = numbers
-        self.said, self.taken, self.cost, self.rules = {}, {}, 0, program.rules
+        self.said: dict[int, bytearray] = {}
+        self.taken: dict[int, int] = {}
+        self.cost, self.rules = 0, program.rules
         self.random, self.takes_any = random.Random(f"{seed} runs"), takes_any
-        self.ready, self.live, self.joining, self.has_erred, self.is_loose = [], 0, 0, False, False
+        self.ready: list[Task] = []
+        self.live, self.joining, self.has_erred, self.is_loose = 0, 0, False, False
         # by channel: the task that waits with a message, the one that waits for one, the ALT that does, and messages on their way
-        self.senders, self.receivers, self.alts, self.underway = {}, {}, {}, {}
+        self.senders: dict[int, tuple[Task, list[int]]] = {}
+        self.receivers: dict[int, Task] = {}
+        self.alts: dict[int, Task] = {}
+        self.underway: dict[int, deque[list[int]]] = {}
 
-    def spend(self, cost):
+    def spend(self, cost: int) -> None:
         self.cost += cost
         if self.cost > self.most:
             raise GoesOn
 
     # -- tasks
 
-    def run(self, steps):
+    def run(self, steps: Steps) -> str:
         """Runs a process until none can go on, and says how it ended."""
         self.start(steps, None)
         try:
@@ -74,11 +101,11 @@ class Machine:
             return "goes on"
         return "halted" if self.has_erred else "waits" if self.live else "ended"
 
-    def start(self, steps, join):
+    def start(self, steps: Steps, join: Join | None) -> None:
         self.live += 1
         self.ready.append(Task(steps, join))
 
-    def step(self, task):
+    def step(self, task: Task) -> None:
         if task.guards is not None:
             task.answer, task.guards = self.chosen(task), None
         answer, task.answer = task.answer, None
@@ -93,11 +120,11 @@ class Machine:
         else:
             getattr(self, request[0])(task, *request[1:])
 
-    def wake(self, task, answer=None):
+    def wake(self, task: Task, answer: list[int] | None = None) -> None:
         task.answer = answer
         self.ready.append(task)
 
-    def finish(self, task):
+    def finish(self, task: Task) -> None:
         self.live -= 1
         join = task.join
         if join is None:
@@ -107,29 +134,31 @@ class Machine:
             self.joining -= 1
             self.wake(join.task)
 
-    def par(self, task, parts):
+    def par(self, task: Task, parts: list[Steps]) -> None:
         """Starts the components of a PAR, and goes on when all have ended."""
         parts = parts[: len(parts) - self.rules.components_left_out]
         if not parts:
-            return self.wake(task)
+            self.wake(task)
+            return
         self.joining += 1
         join = Join(task, len(parts) if self.rules.waits_for_all else 1)
         for part in parts:
             self.start(part, join)
-        return None
 
     # -- channels
 
-    def say(self, task, channel, numbers, size):
+    def say(self, task: Task, channel: int, numbers: list[int], size: int) -> None:
         """A message goes out."""
         if channel < INSIDE:
             for number in numbers:
                 data = (number & ((1 << (8 * size)) - 1)).to_bytes(size, self.rules.order)
                 self.said.setdefault(channel, bytearray()).extend(data)
-            return self.wake(task)
+            self.wake(task)
+            return
         if channel in self.receivers:
             self.wake(self.receivers.pop(channel), numbers)
-            return self.wake(task)
+            self.wake(task)
+            return
         if channel in self.senders:
             raise ValueError("two processes send by one channel")
         if self.rules.is_synchronous:
@@ -139,24 +168,25 @@ class Machine:
             self.wake(task)
         if channel in self.alts:
             self.ends_waiting(self.alts[channel])
-        return None
 
-    def hear(self, task, channel, many, size):
+    def hear(self, task: Task, channel: int, many: int, size: int) -> None:
         """A message is waited for."""
         if channel < INSIDE:
-            return self.hear_link(task, channel - 4, many, size)
+            self.hear_link(task, channel - 4, many, size)
+            return
         if self.underway.get(channel):
-            return self.wake(task, self.underway[channel].popleft())
+            self.wake(task, self.underway[channel].popleft())
+            return
         if channel in self.senders:
             sender, numbers = self.senders.pop(channel)
             self.wake(sender)
-            return self.wake(task, numbers)
+            self.wake(task, numbers)
+            return
         if channel in self.receivers or channel in self.alts:
             raise ValueError("two processes hear by one channel")
         self.receivers[channel] = task
-        return None
 
-    def hear_link(self, task, link, many, size):
+    def hear_link(self, task: Task, link: int, many: int, size: int) -> None:
         """What there is of a message at a link is taken; if it isn't whole, the task waits for ever."""
         begin = self.taken.get(link, 0)
         data = self.coming.get(link, b"")[begin : begin + many * size]
@@ -168,37 +198,40 @@ class Machine:
 
     # -- ALT
 
-    def alt(self, task, guards):
+    def alt(self, task: Task, guards: list[Guard]) -> None:
         """Waits until one of some open guards is ready: pairs of a number and a channel, or none of SKIP."""
         task.guards = guards
         if self.ready_guards(task):
             self.ready.append(task)
             return
         for _, channel in guards:
+            # one without a channel would be ready
+            assert channel is not None
             if channel in self.receivers:
                 raise ValueError("two processes hear by one channel")
             self.alts[channel] = task
 
-    def is_ready(self, channel):
+    def is_ready(self, channel: int | None) -> bool:
         if channel is None:
             return True
         if channel < INSIDE:
             return self.taken.get(channel - 4, 0) < len(self.coming.get(channel - 4, b""))
         return channel in self.senders or bool(self.underway.get(channel))
 
-    def ready_guards(self, task):
-        return [number for number, channel in task.guards if self.is_ready(channel)]
+    def ready_guards(self, task: Task) -> list[int]:
+        return [number for number, channel in task.guards or () if self.is_ready(channel)]
 
-    def ends_waiting(self, task):
-        for _, channel in task.guards:
-            self.alts.pop(channel, None)
+    def ends_waiting(self, task: Task) -> None:
+        for _, channel in task.guards or ():
+            if channel is not None:
+                self.alts.pop(channel, None)
         self.ready.append(task)
 
-    def chosen(self, task):
+    def chosen(self, task: Task) -> int:
         """The guard that is taken. An open SKIP is ready at once, so none after it is taken in any case."""
         ready = self.ready_guards(task)
         if self.takes_any:
-            skips = [number for number, channel in task.guards if channel is None]
+            skips = [number for number, channel in task.guards or () if channel is None]
             return self.random.choice([it for it in ready if it <= min(skips, default=it)])
         return ready[-1 if self.rules.takes_last else 0]
 
@@ -212,15 +245,22 @@ class Program:
     its cells, the places of its channels with their types, the tables, each with its first cell, the rules by which it is read, and
     what its components use against the rules."""
 
-    body: object
+    body: Process
     variables: int
-    named: list
-    channels: dict
-    tables: list
-    rules: object
-    clashes: list
+    named: list[tuple[int, tuple[int, ...], bool]]
+    channels: dict[int, str]
+    tables: list[tuple[int, list[int]]]
+    rules: Rules
+    clashes: list[Clash]
 
-    def run(self, coming=None, most=2_000_000, first=0, seed=0, takes_any=False):
+    def run(
+        self,
+        coming: dict[int, bytes] | None = None,
+        most: int = 2_000_000,
+        first: int = 0,
+        seed: int = 0,
+        takes_any: bool = False,
+    ) -> Talk:
         """The talk of a run for what comes at each link, in which variables have a value at first that no program may depend on."""
         machine = Machine(self, coming or {}, most, first, seed, takes_any)
         end = machine.run(steps_of(self.body, machine))
@@ -232,12 +272,12 @@ class Program:
 # A process is a function that runs it, or one that gives its steps if it has to do with channels.
 
 
-def talks(process):
+def talks(process: Process) -> TypeGuard[Talking]:
     """Whether a process gives steps."""
     return isgeneratorfunction(process)
 
 
-def steps_of(process, machine):
+def steps_of(process: Process, machine: Machine) -> Steps:
     """The steps of any process."""
     if talks(process):
         yield from process(machine)
@@ -245,45 +285,45 @@ def steps_of(process, machine):
         process(machine)
 
 
-def after(begins, body):
+def after(begins: Sequence[Process], body: Process) -> Process:
     """Processes one after another, the first of which need no channel."""
     return sequence([*begins, body])
 
 
-def sequence(parts):
+def sequence(parts: Sequence[Process]) -> Process:
     """Processes one after another."""
     if not any(map(talks, parts)):
 
-        def run(machine):
+        def run(machine: Machine) -> None:
             for part in parts:
                 part(machine)
 
         return run
-    pairs = [(part, talks(part)) for part in parts]
+    pairs = [(part, part if talks(part) else None) for part in parts]
 
-    def steps(machine):
-        for part, is_talking in pairs:
-            if is_talking:
-                yield from part(machine)
+    def steps(machine: Machine) -> Steps:
+        for part, talking in pairs:
+            if talking:
+                yield from talking(machine)
             else:
                 part(machine)
 
     return steps
 
 
-def parallel(parts, cost):
+def parallel(parts: Sequence[Process], cost: int) -> Process:
     """Processes at the same time."""
 
-    def steps(machine):
+    def steps(machine: Machine) -> Steps:
         machine.spend(cost)
         yield "par", [steps_of(part, machine) for part in parts]
 
     return steps
 
 
-def skip(_):
+def skip(_: Machine) -> None:
     return None
 
 
-def halt(_):
+def halt(_: Machine) -> None:
     raise Halts

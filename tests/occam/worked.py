@@ -1,4 +1,5 @@
 """Occam programs of several processes whose answers were worked by hand, for the interpreter of this folder and for the farm."""
+from collections.abc import Iterator
 from dataclasses import dataclass
 
 from occam.meaning import read
@@ -11,7 +12,7 @@ class Worked:
 
     name: str
     text: str
-    coming: dict
+    coming: dict[int, bytes]
     said: str
     end: str
     is_loose: bool = False
@@ -497,7 +498,7 @@ PAR
 ]
 
 
-def differing():
+def differing() -> Iterator[tuple[Worked, str]]:
     """The programs of which the interpreter says something else, with what."""
     for it in WORKED:
         program = read(it.text)

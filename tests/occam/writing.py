@@ -27,7 +27,7 @@ from occam.values import BOOL, BYTE, INT, MOST_NEGATIVE, MOST_POSITIVE, wrapped
 class Writer(Arrays, Procedures):
     """Writes one program."""
 
-    def __init__(self, seed):
+    def __init__(self, seed: int | str) -> None:
         self.random = random.Random(seed)
         self.rest = self.random.choice((5, 10, 20, 40, 60, 100))
         self.links = self.random.choice((1, 1, 1, 2, 4))
@@ -41,7 +41,7 @@ class Writer(Arrays, Procedures):
         self.array_channels = {"in": [], "out": []}
         self.weights = {it: weight if self.chance(SHARE) else 0 for it, weight in WEIGHTS.items()}
         self.in_procs = 0
-        self.lines = []
+        self.lines: list[tuple[int, list[str]]] = []
 
     def chance(self, share):
         return self.random.random() < share
@@ -752,7 +752,7 @@ class Writer(Arrays, Procedures):
         )
         self.put(indent + 2, [name, "!", *element])
 
-    def program(self):
+    def program(self) -> None:
         """Writes all lines."""
         self.heads()
         self.put(0, ["SEQ"])
@@ -791,7 +791,7 @@ class Writer(Arrays, Procedures):
             self.assigned.add(heard)
             self.simple(6)
 
-    def coming(self):
+    def coming(self) -> dict[int, bytes]:
         """What comes at the links."""
         messages = {}
         for kind, link in [it[1:] for it in self.channels["in"]] + [(it[1], it[3]) for it in self.array_channels["in"]]:

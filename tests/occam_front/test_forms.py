@@ -67,7 +67,7 @@ PAIRS = {
 
 
 @pytest.mark.parametrize("name", PAIRS)
-def test_a_form_has_the_core_that_was_written_by_hand(name):
+def test_a_form_has_the_core_that_was_written_by_hand(name: str) -> None:
     form, by_hand = map(core_of, PAIRS[name])
     assert form == by_hand
 
@@ -76,15 +76,15 @@ LINK1 = "PLACE c AT 1:\n"
 WORD, BYTE = ElementKind.WORD, ElementKind.BYTE
 
 
-def number(value):
+def number(value: int) -> tuple[str, int]:
     return ("Number", value)
 
 
-def sent(kind, value):
+def sent(kind: ElementKind, value: tuple[object, ...]) -> tuple[object, ...]:
     return ("Output", ("Link", 1), kind, value)
 
 
-def test_an_array_of_arrays_is_one_array():
+def test_an_array_of_arrays_is_one_array() -> None:
     # [3][4]: element [1][2] is number 1 * 4 + 2 = 6, row 2 is elements 8 to 11, and row 1 elements 4 to 7
     core = core_of("[3][4]INT a:\nINT i:\nSEQ\n  a[1][2] := 5\n  a[2] := a[1]\n  i := SIZE a\n  i := SIZE a[0]\n")
     rows = (
@@ -96,24 +96,24 @@ def test_an_array_of_arrays_is_one_array():
     assert core == ("Sequence", *rows)
 
 
-def test_each_subscript_is_checked_by_itself():
+def test_each_subscript_is_checked_by_itself() -> None:
     core = core_of("[3][4]INT a:\nINT i, j:\na[i][j] := 0\n")
     row = ("Two", "Times", ("Below", 3, ("Variable", 12)), number(4))
     assert core == ("AssignElement", (0, 12, WORD), ("Two", "Plus", row, ("Below", 4, ("Variable", 13))), number(0))
 
 
-def test_the_parts_of_a_message_are_messages():
+def test_the_parts_of_a_message_are_messages() -> None:
     core = core_of("PROTOCOL p IS INT; BYTE:\nCHAN OF p c:\n" + LINK1 + "c ! 7; 'a'\n")
     assert core == ("Sequence", sent(WORD, number(7)), sent(BYTE, number(97)))
 
 
-def test_a_tag_is_a_byte_in_the_order_of_its_declaration():
+def test_a_tag_is_a_byte_in_the_order_of_its_declaration() -> None:
     tags = "PROTOCOL p\n  CASE\n    stop\n    some; INT\n:\nCHAN OF p c:\n"
     assert core_of(tags + LINK1 + "c ! some; 5\n") == ("Sequence", sent(BYTE, number(1)), sent(WORD, number(5)))
     assert core_of(tags + LINK1 + "c ! stop\n") == sent(BYTE, number(0))
 
 
-def test_a_tag_is_received_and_then_chosen_by():
+def test_a_tag_is_received_and_then_chosen_by() -> None:
     tags = "PROTOCOL p\n  CASE\n    stop\n    some; INT\n:\nCHAN OF p c:\nPLACE c AT link1.in:\nINT x:\n"
     core = core_of(tags + "c ? CASE\n  some; x\n    out ! x\n  stop\n    SKIP\n")
     some = ("Sequence", ("Input", ("Link", 5), WORD, 0), ("Output", ("Link", 0), WORD, ("Variable", 0)))
@@ -122,7 +122,7 @@ def test_a_tag_is_received_and_then_chosen_by():
     assert core == ("Sequence", ("Input", ("Link", 5), BYTE, 1), choice)
 
 
-def test_a_counted_array_is_a_count_and_its_elements():
+def test_a_counted_array_is_a_count_and_its_elements() -> None:
     core = core_of("CHAN OF INT::[]BYTE c:\n" + LINK1 + "[8]BYTE b:\nc ! 3::b\n")
     # b is words 0 and 1; the count is kept in 2; 3 and 4 are the index and its count
     element = ("Element", (0, 8, BYTE), ("Variable", 3))
@@ -130,14 +130,14 @@ def test_a_counted_array_is_a_count_and_its_elements():
     assert core == ("Sequence", ("Assign", 2, number(3)), sent(WORD, ("Variable", 2)), turn)
 
 
-def test_a_count_that_is_received_may_not_be_more_than_the_array_has():
+def test_a_count_that_is_received_may_not_be_more_than_the_array_has() -> None:
     core = core_of("CHAN OF INT::[]BYTE c:\nPLACE c AT link1.in:\n[8]BYTE b:\nINT n:\nc ? n::b\n")
     turn = ("InputElement", ("Link", 5), (0, 8, BYTE), ("Variable", 3))
     count = ("Below", 9, ("Variable", 2))
     assert core == ("Sequence", ("Input", ("Link", 5), WORD, 2), ("Repeat", 3, number(0), count, turn))
 
 
-def test_a_part_of_an_array_at_constants_is_an_array():
+def test_a_part_of_an_array_at_constants_is_an_array() -> None:
     core = core_of("[8]INT a:\n[a FROM 2 FOR 3] := [a FROM 5 FOR 3]\n")
     assert core == ("Copy", (2, 3, WORD), (5, 3, WORD))
 
@@ -156,5 +156,5 @@ WRONG = {
 
 
 @pytest.mark.parametrize("text", WRONG)
-def test_a_mistake_in_a_form_is_told_where_it_is(text):
+def test_a_mistake_in_a_form_is_told_where_it_is(text: str) -> None:
     assert mistakes_of(text)[0].startswith(WRONG[text] + ":")

@@ -12,7 +12,7 @@ from nadzsumek.occam.words import statements_of
 LEAST = 0x8000_0000
 
 
-def test_a_word_is_near_a_name_by_slips():
+def test_a_word_is_near_a_name_by_slips() -> None:
     assert is_near("WHLE", "WHILE", 1) and is_near("PRA", "PAR", 1) and is_near("SKIIP", "SKIP", 1)
     # a word of less than six letters has one slip at most, and one of two letters none
     assert not is_near("WHL", "WHILE", 2) and not is_near("OR", "FOR", 2)
@@ -20,13 +20,13 @@ def test_a_word_is_near_a_name_by_slips():
     assert nearest("conut", ["count", "cont"]) == "count"
 
 
-def test_a_long_word_is_shown_up_to_24_letters():
+def test_a_long_word_is_shown_up_to_24_letters() -> None:
     assert quoted("a" * 24) == '"' + "a" * 24 + '"'
     assert quoted("a" * 25) == '"' + "a" * 24 + '..."'
     assert quoted("\x7f") == '"\\u{7f}"'
 
 
-def test_a_line_goes_on_after_an_operator():
+def test_a_line_goes_on_after_an_operator() -> None:
     rows = statements_of(b"x := 1 +\n  2 -- both\n\nSKIP\n")
     assert [[it.text for it in row.words] for row in rows] == [["x", ":=", "1", "+", "2", ""], ["SKIP", ""]]
 
@@ -42,7 +42,7 @@ MISTAKES = {
 
 
 @pytest.mark.parametrize("text", MISTAKES)
-def test_a_mistake_is_told_with_its_place_and_number(text):
+def test_a_mistake_is_told_with_its_place_and_number(text: str) -> None:
     assert mistakes_of(text)[0] == MISTAKES[text]
 
 
@@ -64,23 +64,23 @@ WARNINGS = {
 
 
 @pytest.mark.parametrize("text", WARNINGS)
-def test_warnings(text):
+def test_warnings(text: str) -> None:
     assert compiled(text.encode()).warnings == WARNINGS[text]
 
 
-def test_at_most_twenty_warnings_are_shown():
+def test_at_most_twenty_warnings_are_shown() -> None:
     lines = compiled(("INT " + ", ".join(f"x{it}" for it in range(25)) + ":\nSKIP\n").encode()).warnings
     assert len(lines) == 21 and lines[-1] == "There are more warnings"
 
 
-def test_a_core_as_a_text_has_no_procedures_and_each_name_once():
+def test_a_core_as_a_text_has_no_procedures_and_each_name_once() -> None:
     text = "CHAN OF BYTE to:\nPLACE to AT 0:\nINT x:\nPROC p (VAL INT n)\n  INT x:\n  x := n\n:\nSEQ\n  p (1)\n  x := 2 * 3\n"
     core = "CHAN OF BYTE to:\nPLACE to AT link0.out:\nINT x, x.2:\nSEQ\n  x.2 := 1\n  x := 6\n"
     assert text_of_core(compiled(text.encode()).program) == core
     assert text_of_core(compiled(core.encode()).program) == core
 
 
-def test_operations_on_constants_are_those_of_the_processor():
+def test_operations_on_constants_are_those_of_the_processor() -> None:
     # towards 0, the rest with the sign of the left value; the least INT has no positive one
     assert two_value("Divide", -7 & 0xFFFF_FFFF, 2) == -3 & 0xFFFF_FFFF
     assert two_value("Remainder", -7 & 0xFFFF_FFFF, 2) == -1 & 0xFFFF_FFFF

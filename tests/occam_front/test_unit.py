@@ -1,6 +1,7 @@
 """The unit of a text: its shape, its variables, what was evaluated, and what is told if the compiler itself fails."""
 
 import json
+from typing import Any
 
 import pytest
 
@@ -28,11 +29,12 @@ SEQ
 """
 
 
-def read(text, **asked):
-    return json.loads(unit_of(text.encode() if isinstance(text, str) else text, **asked))
+def read(text: str | bytes, with_core: bool = False) -> Any:
+    """The unit of a text, as JSON."""
+    return json.loads(unit_of(text.encode() if isinstance(text, str) else text, with_core=with_core))
 
 
-def test_a_unit_has_its_fields_in_one_line():
+def test_a_unit_has_its_fields_in_one_line() -> None:
     line = unit_of(TEXT.encode())
     assert "\n" not in line
     assert list(json.loads(line)) == FIELDS
@@ -40,13 +42,13 @@ def test_a_unit_has_its_fields_in_one_line():
     assert json.loads(line)["text"] == TEXT
 
 
-def test_the_core_is_there_if_it_is_asked_for():
+def test_the_core_is_there_if_it_is_asked_for() -> None:
     asked = read("INT x:\nx := 1 + 1\n", with_core=True)
     assert asked["core"] == "INT x:\nx := 2\n"
     assert "core" not in read("SKIP\n")
 
 
-def test_a_wrong_text_has_mistakes_alone():
+def test_a_wrong_text_has_mistakes_alone() -> None:
     wrong = read("INT x:\nSEQ\n  x := y\n  z := 1\n")
     assert wrong["mistakes"] == [
         'line 3, column 8: fault 16: expected a name that is declared, not "y"',
@@ -55,18 +57,18 @@ def test_a_wrong_text_has_mistakes_alone():
     assert not any(wrong[name] for name in EMPTY)
 
 
-def test_more_than_twenty_mistakes_are_said_to_be_more():
+def test_more_than_twenty_mistakes_are_said_to_be_more() -> None:
     lines = read("SEQ\n" + "  x := 1\n" * 30)["mistakes"]
     assert len(lines) == 21 and lines[-1] == "More is wrong"
 
 
-def test_bytes_that_are_no_utf_8_are_replaced_in_the_text():
+def test_bytes_that_are_no_utf_8_are_replaced_in_the_text() -> None:
     wrong = read(b"-- \xff\nSKIP\n")
     assert wrong["mistakes"][0].startswith("line 1, column 1: fault 1: expected a comment in UTF-8")
     assert wrong["text"] == "-- \ufffd\nSKIP\n"
 
 
-def test_each_word_is_in_one_variable():
+def test_each_word_is_in_one_variable() -> None:
     found = read(TEXT)
     rows = [(it["name"], it["type"], it["line"], it["first"], it["words"], it["length"]) for it in found["variables"]]
     # two words of the table, five bytes in two words, x, and the index with its count
@@ -84,14 +86,14 @@ def test_each_word_is_in_one_variable():
         end += it["words"]
 
 
-def test_what_is_in_the_prelude_has_no_name_and_the_line_of_its_instance():
+def test_what_is_in_the_prelude_has_no_name_and_the_line_of_its_instance() -> None:
     # n of add is evaluated, and has its name and line. Of out.int x is given by its own word; digits, rest, first and an index with
     # its count have no name
     rows = [(it["name"], it["line"], it["words"]) for it in read(TEXT)["variables"][5:]]
     assert rows == [("n", 6, 1), (None, 12, 3), (None, 12, 1), (None, 12, 1), (None, 12, 1), (None, 12, 1)]
 
 
-def test_links_procedures_and_instances():
+def test_links_procedures_and_instances() -> None:
     found = read(TEXT)
     assert found["links"] == [{"number": 0, "name": "to", "line": 2}]
     assert found["procedures"] == [
@@ -102,14 +104,14 @@ def test_links_procedures_and_instances():
     assert found["instances"] == [{"line": 11, "column": 5, "procedure": 2}, {"line": 12, "column": 3, "procedure": 1}]
 
 
-def test_a_call_of_a_function_is_an_instance_with_a_line():
+def test_a_call_of_a_function_is_an_instance_with_a_line() -> None:
     found = read(HEAD + "INT FUNCTION f (VAL INT n) IS n * n:\nINT x:\nSEQ\n  in ? x\n  x := 1 + f (x)\n")
     assert found["procedures"][2] == {"name": "f", "line": 5}
     assert found["instances"] == [{"line": 9, "column": 12, "procedure": 2}]
     assert any("Line" in it and it["Line"][:2] == [9, 12] for it in found["processes"])
 
 
-def test_folds_are_each_told_once_with_operands_and_result():
+def test_folds_are_each_told_once_with_operands_and_result() -> None:
     text = "INT x:\nSEQ\n  x := 3 + 4\n  x := -3\n  x := (3 + 4) * 2\n  x := ~0\n"
     assert read(text)["folds"] == [
         {"Two": ["Add", 3, 4, 7]},
@@ -119,7 +121,7 @@ def test_folds_are_each_told_once_with_operands_and_result():
     ]
 
 
-def named_rows(found):
+def named_rows(found: Any) -> tuple[list[int], list[int]]:
     """How often each row of processes and of expressions is named by another."""
     processes, expressions = [0] * len(found["processes"]), [0] * len(found["expressions"])
     # where a row names processes, and where it names expressions
@@ -164,7 +166,7 @@ def named_rows(found):
     return processes, expressions
 
 
-def test_each_row_is_named_once_and_the_last_process_is_the_program():
+def test_each_row_is_named_once_and_the_last_process_is_the_program() -> None:
     alt = "[2]CHAN OF INT c:\nINT x, y:\nSEQ\n  in ? y\n  ALT\n    (y > 1) & c[y] ? x\n      SKIP\n    TRUE & SKIP\n      STOP\n"
     for text in (TEXT, HEAD + alt, HEAD + "WHILE TRUE\n  PAR\n    SKIP\n    SKIP\n"):
         processes, expressions = named_rows(read(text))
@@ -172,7 +174,7 @@ def test_each_row_is_named_once_and_the_last_process_is_the_program():
         assert set(expressions) <= {1}
 
 
-def test_long_and_deep_texts_need_no_deep_rows():
+def test_long_and_deep_texts_need_no_deep_rows() -> None:
     long = read("INT x:\nSEQ\n" + "  x := 1\n" * 5_000)
     assert len(long["processes"]) == 3 * 5_000 - 1
     chain = read("INT x:\nIF\n" + "".join(f"  x = {it}\n    SKIP\n" for it in range(1_000)))
@@ -193,15 +195,15 @@ NESTED = {
 
 
 @pytest.mark.parametrize("name", NESTED)
-def test_nesting_has_a_bound(name):
+def test_nesting_has_a_bound(name: str) -> None:
     assert "fault 38: expected nesting of at most 64" in read(NESTED[name] + "\nSKIP\n")["mistakes"][0]
 
 
-def fails(*_):
+def fails(*_: object) -> None:
     raise KeyError("anything")
 
 
-def test_a_failure_of_the_compiler_is_told_as_its_own_mistake(monkeypatch):
+def test_a_failure_of_the_compiler_is_told_as_its_own_mistake(monkeypatch: pytest.MonkeyPatch) -> None:
     monkeypatch.setattr(names.Namer, "case", fails)
     told = read("INT x:\nSEQ\n  x := 1\n  CASE x\n    1\n      SKIP\n")["mistakes"]
     said = (
@@ -211,6 +213,6 @@ def test_a_failure_of_the_compiler_is_told_as_its_own_mistake(monkeypatch):
 
 
 @pytest.mark.parametrize("part", [(source_names.SourceNames, "process"), (unit, "variables_of")])
-def test_a_failure_elsewhere_is_told_at_line_1(monkeypatch, part):
+def test_a_failure_elsewhere_is_told_at_line_1(monkeypatch: pytest.MonkeyPatch, part: tuple[object, str]) -> None:
     monkeypatch.setattr(*part, fails)
     assert read("SKIP\n")["mistakes"][0].startswith("line 1, column 1: fault 49: ")

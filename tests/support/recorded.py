@@ -37,10 +37,14 @@ def assembled(text: str) -> str:
     return code.strip()
 
 
-def boot(program: str) -> str:
-    """The bytes of a boot message, which the host sends."""
-    code = assembled(program)
+def loaded(code: str) -> str:
+    """The line by which the host boots a node with code."""
     return f"0 writes 0 {len(code) // 2:02x}{code}"
+
+
+def boot(program: str) -> str:
+    """The line by which the host boots a node with a program."""
+    return loaded(assembled(program))
 
 
 def journal_lines(journal: Iterable[str]) -> Iterator[str]:
@@ -69,6 +73,14 @@ def recorded(plan: str, lines: Iterable[str]) -> str:
     answers = out.splitlines()
     begin = next(n for n, line in enumerate(answers) if re.match(r"@\w+ \w+", line) or line == "end")
     return plan + "".join(f"{it}\n" for it in journal_lines(answers[begin : answers.index("end", begin)]))
+
+
+def events_in(record: str) -> Iterator[str]:
+    """The events of a record, each as often as it happened."""
+    for line in record.split("---\n")[1].splitlines():
+        found = re.fullmatch(r"(?:(\d+) times )?(0 .*)", line)
+        assert found, line
+        yield from [found[2]] * int(found[1] or 1)
 
 
 def by_hand(code: str, steps: int) -> str:
