@@ -8,6 +8,7 @@ import time
 from collections.abc import Iterator
 
 import pytest
+from support.serving_trials import hears_ctrl_c
 from support.courses import Course
 from support.live_lines import SECONDS
 from support.trials import TOP, contents, put, run
@@ -27,7 +28,9 @@ def begun(it: Course, *words: str) -> subprocess.Popen[bytes]:
     """A `class finish` that squeezes for some seconds, and has begun with that."""
     put(f"{it.folder}/sheets/long.bin", os.urandom(LONG))
     call = [f"{TOP}/class", "finish", *words, it.folder]
-    process = subprocess.Popen(call, env=it.env, stdout=subprocess.PIPE, stderr=subprocess.STDOUT)
+    process = subprocess.Popen(
+        call, env=it.env, stdout=subprocess.PIPE, stderr=subprocess.STDOUT, preexec_fn=hears_ctrl_c
+    )
     end = time.monotonic() + SECONDS
     while not os.path.exists(f"{it.folder}.tar.xz.new") and time.monotonic() < end:
         time.sleep(0.02)

@@ -7,6 +7,7 @@ import subprocess
 import time
 
 import pytest
+from support.serving_trials import hears_ctrl_c
 from support.courses import Course, ended
 from support.live_lines import SECONDS
 from support.trials import TOP, put, run, text_of
@@ -96,7 +97,9 @@ def test_an_order_that_is_ended_while_it_waits_is_done(live: str, how: signal.Si
             assert run([f"{TOP}/connect", it.folder, "student-2", "-c", line], more=it.env).status == 0
         held(it, IDLE, live)
         call = [f"{TOP}/class", "rename", it.folder, "student-2", "Eve"]
-        with subprocess.Popen(call, env=it.env, stdout=subprocess.PIPE, stderr=subprocess.STDOUT) as order:
+        with subprocess.Popen(
+            call, env=it.env, stdout=subprocess.PIPE, stderr=subprocess.STDOUT, preexec_fn=hears_ctrl_c
+        ) as order:
             end = time.monotonic() + SECONDS
             while not os.path.exists(f"{it.folder}/class.done") and time.monotonic() < end:
                 time.sleep(0.05)

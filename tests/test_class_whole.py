@@ -10,6 +10,7 @@ import sys
 import time
 
 import pytest
+from support.serving_trials import hears_ctrl_c
 from support.courses import Course
 from support.live_lines import SECONDS
 from support.trials import TOP, run, text_of
@@ -137,7 +138,9 @@ def test_no_signal_leaves_a_farm_off() -> None:
         names = ["student-2", "eve"]
         for step in range(12):
             call = [f"{TOP}/class", "rename", it.folder, names[0], names[1]]
-            with subprocess.Popen(call, env=it.env, stdout=subprocess.DEVNULL, stderr=subprocess.DEVNULL) as order:
+            with subprocess.Popen(
+                call, env=it.env, stdout=subprocess.DEVNULL, stderr=subprocess.DEVNULL, preexec_fn=hears_ctrl_c
+            ) as order:
                 time.sleep(0.15 * step)
                 order.send_signal((signal.SIGTERM, signal.SIGHUP, signal.SIGINT)[step % 3])
                 assert order.wait(SECONDS) in (0, 1, 130, -15, -2, -1)

@@ -39,8 +39,9 @@ links = [0, -1, -1, -1]
 
 
 def hears_ctrl_c() -> None:
-    """Lets Ctrl-C reach a process that begins, also if whoever runs the trials passes over it."""
+    """Lets Ctrl-C and the end of a terminal reach a process that begins, also if whoever runs the trials passes over them."""
     signal.signal(signal.SIGINT, signal.SIG_DFL)
+    signal.signal(signal.SIGHUP, signal.SIG_DFL)
 
 
 class Client:
