@@ -1,8 +1,7 @@
 -- Domains that are at their places, and a user's commands that are listed entry by entry: the clause `domains` of
 -- `open_domains`, and the contract of `list_commands`.
 use Rattle.std.proofs.Common.{◌≡◌, ℕ, zero, suc, ◌+◌, List, [], ◌∷◌, ◌++◌, length}
-use Rattle.std.proofs.Common.{◌<◌, arith, get_or, inl, inr, take, Some, slice_get, sym, ap, ◌∙◌, subst, append_assoc}
-use Rattle.std.proofs.lemmas.Bool.Decides.{eqb_tells}
+use Rattle.std.proofs.Common.{take, Some, slice_get, sym, ap, ◌∙◌, subst, append_assoc}
 use Rattle.std.proofs.lemmas.List.{take_more}
 use Rattle.std.proofs.lemmas.List.Elements.{filter_map-append}
 use Rattle.std.proofs.lemmas.Option.{slice_get_within, get_or_from_slice_get, same_Some, none-some}
@@ -13,7 +12,7 @@ use Rattle.domain_core.specs.Journal.{expanded}
 use Rattle.domain_core.specs.Laws.{JournalsAddUp}
 use Rattle.domain_core.specs.declared.event.AnsweredCommand.{AnsweredCommand}
 use Rattle.farm_service.specs.Commands.{command_from, commands_of}
-use Rattle.farm_service.specs.Histories.{AreInPlaces}
+use Rattle.farm_service.specs.Openings.{AreInPlaces}
 
 -- what holds of each member at its place, and of one more
 snoc_each : {A : Type 0} (P : ℕ → A → Type 0) (xs : List A) (x : A)
@@ -32,21 +31,6 @@ pub in_places_more : (plan : List DomainData) (domains : List DomainValue) (numb
     → AreInPlaces plan (domains ++ d ∷ [])
 in_places_more plan domains number d each is fits =
     snoc_each (Fits plan) domains d each (subst (λ (n : ℕ). Fits plan n d) is fits)
-
--- a domain that fits the next place is there, if those before it fit theirs
-pub fits_more : (plan : List DomainData) (domains : List DomainValue) (i : ℕ) (domain : DomainValue)
-    → ((n : ℕ) (d : DomainValue) → n < i → slice_get domains n ≡ Some d → Fits plan n d)
-    → domain ≡ get_or domains i domain → Fits plan i domain
-    → (n : ℕ) (d : DomainValue) → n < i + 1 → slice_get domains n ≡ Some d → Fits plan n d
-fits_more plan domains i domain before is fits n d less at = elim (eqb_tells n i) [
-  | inl same ↦
-      subst (λ (m : ℕ). Fits plan m d) (sym same.1)
-      (subst (Fits plan i)
-      (is
-      ∙ get_or_from_slice_get domains i d domain (subst (λ (m : ℕ). slice_get domains m ≡ Some d) same.1 at))
-      fits)
-  | inr other ↦ before n d (omega (arith, less, other.1)) at
-]
 
 -- what an entry more has of a user's commands
 commands_more : JournalsAddUp

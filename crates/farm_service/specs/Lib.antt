@@ -6,7 +6,8 @@ pub mod Rooms
 pub mod Domains
 pub mod Closed
 pub mod Restarts
-pub mod Histories
+pub mod Entering
+pub mod Openings
 pub mod Answers
 -- what only helps contracts
 pub mod Endings

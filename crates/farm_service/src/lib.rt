@@ -3,10 +3,12 @@
 #![tactic(auto)]
 
 mod askers;
+mod bounds;
 mod closed;
 mod closing;
 mod commands;
 mod copying;
+mod entering;
 mod halves;
 mod histories;
 mod limits;
@@ -19,6 +21,7 @@ mod pass;
 mod restarting;
 mod resting;
 mod room;
+mod seated_domains;
 mod service;
 mod session;
 mod status;
@@ -30,7 +33,7 @@ mod worker;
 pub use closed::{Closed, ClosedDomain, NotClosed};
 pub use commands::is_command;
 pub use domain_core::{Committed, Refusal, Ticket};
-pub use histories::Histories;
+pub use entering::History;
 pub use opening::Opened;
 pub use pass::UserPass;
 pub use resting::RestCause;

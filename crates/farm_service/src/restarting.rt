@@ -28,8 +28,8 @@ fn are_in_order(number: u8, sessions: &[Session<'_>]) -> bool
     true
 }
 
-// Whether these are the sessions of all users of a domain, in their order.
-fn are_all_of(plan: &AcceptedPlan, number: u8, sessions: &[Session<'_>]) -> bool
+/// Whether these are the sessions of all users of a domain, in their order.
+pub(crate) fn are_all_of(plan: &AcceptedPlan, number: u8, sessions: &[Session<'_>]) -> bool
     ensures { IsTrue result ↔ AreAllOf plan.now number sessions.now }
 {
     number < plan.domains()
@@ -66,8 +66,8 @@ fn all_listed(journal: &Journal, sessions: &[Session<'_>]) -> bool
     true
 }
 
-// Sees that each session's list is what a journal has of its user. If it isn't so, waits for ever.
-fn await_all_listed<R: Wait>(rt: &R, journal: &Journal, sessions: &[Session<'_>])
+/// Sees that each session's list is what a journal has of its user. If it isn't so, waits for ever.
+pub(crate) fn await_all_listed<R: Wait>(rt: &R, journal: &Journal, sessions: &[Session<'_>])
     ensures { AllListed journal.now.entries sessions.now }
 {
     if !all_listed(journal, sessions) {

@@ -24,7 +24,6 @@ use crate::NoMemory;
 use crate::askers::await_rightly_asked;
 use crate::closed::{Closed, NotClosed};
 use crate::closing::{ClosingMemory, close_domains};
-use crate::histories::Histories;
 use crate::limits::await_limits;
 use crate::lists::await_listed;
 use crate::locking::{await_fitting, take};
@@ -32,6 +31,7 @@ use crate::opening::{Opened, lock_each};
 use crate::pass::UserPass;
 use crate::resting::RestNotes;
 use crate::room::Room;
+use crate::seated_domains::SeatedDomains;
 use crate::waiting::block_forever;
 use crossbar::Word;
 use domain_core::laws::histories_grow;
@@ -174,31 +174,30 @@ fn open_parts<R: Wait>(
 
 impl Service {
     /// A service on the domains of a plan, which are put under locks, with the passes of its users.
-    // Nine clauses: two of what is handed in, one for each thing that is opened, and when there is none.
+    // Eight clauses: how many workers, one for each thing that is opened, and when there is none.
     pub(crate) fn of<R: Wait>(
         rt: &R,
         alloc: Global,
-        histories: Histories,
+        seated: SeatedDomains,
         workers: u8,
         users: Vec<UserPass>,
     ) -> Result<Opened, Refusal>
         requires workers { (1 ≤ workers) × (workers ≤ 8) }
-        requires count { vec_len histories.domains ≡ length histories.plan }
-        ensures plan { IfOk result (λ o. o.service.plan ≡ histories.plan) }
-        ensures room { IfOk result (λ o. o.service.room ≡ histories.room) }
+        ensures plan { IfOk result (λ o. o.service.plan ≡ seated.plan) }
+        ensures room { IfOk result (λ o. o.service.room ≡ seated.room) }
         ensures users { IfOk result (λ o. o.users ≡ users) }
         ensures workers { IfOk result (λ o. length o.passes.items ≡ workers) }
-        ensures passes { IfOk result (λ o. AreItsPasses histories.plan o.service.queue o.passes.items) }
+        ensures passes { IfOk result (λ o. AreItsPasses seated.plan o.service.queue o.passes.items) }
         ensures operator { IfOk result (λ o. IsItsOperator o.service o.operator × (seen_words o.operator ≡ replicate 32 0)) }
         ensures err { IfErr result (λ refusal. refusal ≡ refusal_of.NoMemory) }
     {
-        let Histories {
+        let SeatedDomains {
             plan,
             domains,
             table,
             operator,
             room,
-        } = histories;
+        } = seated;
         let rest_notes = RestNotes::of_each(alloc, domains.len())?;
         let (domains, schedule, tokens, passes) = open_parts(rt, alloc, &plan, domains, workers)?;
         Ok(Opened {

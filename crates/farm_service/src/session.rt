@@ -1,15 +1,17 @@
 //! A user's commands.
 
-ghost use Rattle.std.specs.Prelude.{◌≡◌, ◌≢◌, ◌<◌, ◌≤◌, Err, length};
+ghost use Rattle.std.specs.Prelude.{◌≡◌, ◌≢◌, ◌<◌, ◌≤◌, Err, IfOk, length};
 ghost use Rattle.domain_core.specs.declared.event.Refusal.TheVariants.{NoSuch, NoMemory};
 ghost use Rattle.domain_core.specs.declared.event.Event.TheVariants.{Config, Write, Read, Reset, Look};
 ghost use Rattle.farm_service.specs.Answers.{IsTold, HasNoRoomLeft};
+ghost use Rattle.farm_service.specs.Closed.{IsListedIn};
 ghost use Rattle.farm_service.specs.Passes.{Gains, NotesRefusal};
 ghost use Rattle.farm_service.specs.Restarts.{begun_anew};
 
+use crate::NoMemory;
 use crate::pass::UserPass;
 use crate::service::Service;
-use domain_core::{AnsweredCommand, By, Event, Refusal, Reply};
+use domain_core::{AnsweredCommand, By, Event, Journal, Refusal, Reply};
 use std::alloc::Global;
 use std::marker::Model;
 use std::sync::Wait;
@@ -89,6 +91,13 @@ impl Session<'_> {
         ensures { self.new ≡ begun_anew self.old }
     {
         self.pass.begin_anew();
+    }
+
+    // Makes the user's list what a journal has of the user.
+    pub(crate) fn list_again(&mut self, journal: &Journal) -> Result<(), NoMemory>
+        ensures { IfOk result (λ _. IsListedIn journal.now.entries self.new.pass) }
+    {
+        self.pass.list_again(journal)
     }
 
     // Asks the user's domain, lists what it answers, and notes a refusal.

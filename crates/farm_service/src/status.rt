@@ -53,15 +53,15 @@ fn status_of(domain: &mut SeatedDomain, bound: Room, room: RoomStatus) -> Domain
 }
 
 impl Service {
-    // Why a domain rests, if that many bytes of its room are taken.
-    fn rest_cause(&self, number: u8, taken: u64) -> Option<RestCause>
+    // Why a domain rests, if that many bytes of its room are taken, and its journal has that many events.
+    fn rest_cause(&self, number: u8, taken: u64, events: u64) -> Option<RestCause>
         ensures { (result ≡ Some SpecRoomUsedUp) ↔ IsUsedUp self.now.room taken }
     {
         if self.room().is_used_up(taken) {
             return Some(RestCause::RoomUsedUp);
         }
         match self.rest_notes(number) {
-            Some(notes) => notes.cause(),
+            Some(notes) => notes.cause(taken, events),
             None => None,
         }
     }
@@ -74,7 +74,7 @@ impl Service {
         RoomStatus {
             bytes,
             room_bytes: self.room().bytes(),
-            rests: self.rest_cause(number, bytes),
+            rests: self.rest_cause(number, bytes, domain.recorded_events()),
         }
     }
 

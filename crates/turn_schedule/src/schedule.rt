@@ -96,6 +96,8 @@ struct DomainMarks {
     settlers: AtomicUsize,
     // How many quanta the bursts of the round have.
     quanta: AtomicU64,
+    // Workers do nothing there, whatever is allowed.
+    is_held_back: AtomicBool,
 }
 
 // Dropped by hand, since a derived `Drop` makes callers prove the drop of each field.
@@ -104,6 +106,7 @@ impl Drop for DomainMarks {
         let DomainMarks {
             settlers: _,
             quanta: _,
+            is_held_back: _,
         } = self;
     }
 }
@@ -208,6 +211,7 @@ impl Schedule {
             domains.push(CachePadded::new(DomainMarks {
                 settlers: AtomicUsize::new(0),
                 quanta: AtomicU64::new(1),
+                is_held_back: AtomicBool::new(false),
             }))?;
         }
         Ok(Schedule {
@@ -382,9 +386,26 @@ impl Schedule {
         &self.allowance
     }
 
-    /// Whether workers do nothing in a domain for now: it has recorded all that it may, and nobody settles there.
+    /// Holds workers back from a domain, or lets them in again.
+    pub fn hold_back(&self, domain: u8, is_held_back: bool) {
+        if let Some(marks) = self.domain(domain) {
+            mark(&marks.is_held_back, is_held_back);
+        }
+    }
+
+    /// Whether workers are held back from a domain.
+    pub fn is_held_back(&self, domain: u8) -> bool {
+        match self.domain(domain) {
+            Some(marks) => marks.is_held_back.load(Ordering::SeqCst),
+            None => false,
+        }
+    }
+
+    /// Whether workers do nothing in a domain for now: they are held back from it, or it has recorded all that it may, and nobody
+    /// settles there.
     pub fn is_paused(&self, domain: u8) -> bool {
-        self.allowance.is_used_up(domain) && !self.has_settler(domain)
+        self.is_held_back(domain)
+            || (self.allowance.is_used_up(domain) && !self.has_settler(domain))
     }
 
     /// Makes way for others before a worker's turn. If it has had nothing to do for long and may sleep, it sleeps until

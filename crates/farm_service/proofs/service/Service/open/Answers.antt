@@ -37,26 +37,26 @@ returns-in_err-users-clause-operator g c = IfOk-from_err c.from_residual.result 
 pub returns-in_err-users-clause-seen : goal.returns-in_err-users-clause-seen
 returns-in_err-users-clause-seen g c = IfOk-from_err c.from_residual.result _ c.from_residual.ensures.0
 
-pub returns-in_err-histories-clause-plan : goal.returns-in_err-histories-clause-plan
-returns-in_err-histories-clause-plan g c =
-    IfOk-from_err c.from_residual-in_err-histories.result _ c.from_residual-in_err-histories.ensures.0
+pub returns-in_err-domains-clause-plan : goal.returns-in_err-domains-clause-plan
+returns-in_err-domains-clause-plan g c =
+    IfOk-from_err c.from_residual-in_err-domains.result _ c.from_residual-in_err-domains.ensures.0
 
-pub returns-in_err-histories-clause-users : goal.returns-in_err-histories-clause-users
-returns-in_err-histories-clause-users g c =
-    IfOk-from_err c.from_residual-in_err-histories.result _ c.from_residual-in_err-histories.ensures.0
+pub returns-in_err-domains-clause-users : goal.returns-in_err-domains-clause-users
+returns-in_err-domains-clause-users g c =
+    IfOk-from_err c.from_residual-in_err-domains.result _ c.from_residual-in_err-domains.ensures.0
 
-pub returns-in_err-histories-clause-workers : goal.returns-in_err-histories-clause-workers
-returns-in_err-histories-clause-workers g c =
-    IfOk-from_err c.from_residual-in_err-histories.result _ c.from_residual-in_err-histories.ensures.0
+pub returns-in_err-domains-clause-workers : goal.returns-in_err-domains-clause-workers
+returns-in_err-domains-clause-workers g c =
+    IfOk-from_err c.from_residual-in_err-domains.result _ c.from_residual-in_err-domains.ensures.0
 
-pub returns-in_err-histories-clause-passes : goal.returns-in_err-histories-clause-passes
-returns-in_err-histories-clause-passes g c =
-    IfOk-from_err c.from_residual-in_err-histories.result _ c.from_residual-in_err-histories.ensures.0
+pub returns-in_err-domains-clause-passes : goal.returns-in_err-domains-clause-passes
+returns-in_err-domains-clause-passes g c =
+    IfOk-from_err c.from_residual-in_err-domains.result _ c.from_residual-in_err-domains.ensures.0
 
-pub returns-in_err-histories-clause-operator : goal.returns-in_err-histories-clause-operator
-returns-in_err-histories-clause-operator g c =
-    IfOk-from_err c.from_residual-in_err-histories.result _ c.from_residual-in_err-histories.ensures.0
+pub returns-in_err-domains-clause-operator : goal.returns-in_err-domains-clause-operator
+returns-in_err-domains-clause-operator g c =
+    IfOk-from_err c.from_residual-in_err-domains.result _ c.from_residual-in_err-domains.ensures.0
 
-pub returns-in_err-histories-clause-seen : goal.returns-in_err-histories-clause-seen
-returns-in_err-histories-clause-seen g c =
-    IfOk-from_err c.from_residual-in_err-histories.result _ c.from_residual-in_err-histories.ensures.0
+pub returns-in_err-domains-clause-seen : goal.returns-in_err-domains-clause-seen
+returns-in_err-domains-clause-seen g c =
+    IfOk-from_err c.from_residual-in_err-domains.result _ c.from_residual-in_err-domains.ensures.0
