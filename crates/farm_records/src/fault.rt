@@ -13,6 +13,9 @@ pub enum RedoFault {
     /// The domain doesn't answer what it says, or doesn't record it.
     #[error("the domain doesn't answer so")]
     Differs,
+    /// It was ended by who watches.
+    #[error("it was ended")]
+    Ended,
     #[error("memory")]
     Memory(#[from(alloc)] AllocError),
 }
@@ -29,6 +32,9 @@ pub enum RecordFault {
     /// It can't be read.
     #[error("{0}")]
     Io(io::Error),
+    /// It was ended by who watches.
+    #[error("it was ended")]
+    Ended,
     #[error("memory")]
     Memory(#[from(alloc)] AllocError),
 }
@@ -46,7 +52,8 @@ impl RecordFault {
     pub fn of_line(number: u64, fault: RedoFault) -> RecordFault {
         match fault {
             RedoFault::Memory(error) => RecordFault::Memory(error),
-            _ => RecordFault::Line { number, fault },
+            RedoFault::Ended => RecordFault::Ended,
+            RedoFault::NoLine | RedoFault::Differs => RecordFault::Line { number, fault },
         }
     }
 }

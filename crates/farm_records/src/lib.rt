@@ -9,6 +9,7 @@ mod line;
 mod node_loop;
 mod reading;
 mod redoing;
+mod watch;
 mod writing;
 
 pub use fault::{HeadFault, RecordFault, RedoFault};
@@ -16,4 +17,5 @@ pub use head::head_of;
 pub use line::{CallLine, RecordedCall, read_call};
 pub use reading::{Redone, redo_record};
 pub use redoing::{Redoing, redo_line};
+pub use watch::ReplayWatch;
 pub use writing::write_records_of;

@@ -9,6 +9,9 @@ const FIRST_BURST: u64 = 1 << 16;
 /// After how many Steps a period is looked for again.
 const STEPS_BETWEEN_LOOKS: u64 = 1 << 24;
 
+/// How many Steps a later burst has, at most, if no period is known: about a second's work.
+const MOST_BURST: u64 = 1 << 28;
+
 /// How many Steps are done one by one, at most, to find a period.
 const PERIOD_STEPS: u64 = 1 << 14;
 
@@ -44,8 +47,9 @@ impl NodeLoop {
         }
     }
 
-    /// How many of the Steps that are left the next burst has: all if a period is known, or else no more than were done before. So
-    /// where a program comes to an endless loop, a burst begins in the loop before it has done twice as many Steps.
+    /// How many of the Steps that are left the next burst has: all if a period is known, or else no more than were done before, and
+    /// 2^28 at the most. So where a program comes to an endless loop, a burst begins in the loop before it has done twice as many
+    /// Steps.
     pub fn next_steps(self, done: u64, left: u64) -> u64
         requires done { 0 < done }
         requires left { 0 < left }
@@ -55,7 +59,7 @@ impl NodeLoop {
         if self.period > 0 {
             left
         } else {
-            done.min(left)
+            done.min(left).min(MOST_BURST)
         }
     }
 

@@ -6,6 +6,7 @@ ghost use Rattle.farm_records.specs.Taking.{TakesHead, TakesLines, TakesRecord};
 
 use crate::fault::{RecordFault, RedoFault};
 use crate::redoing::{Redoing, redo_line};
+use crate::watch::ReplayWatch;
 use crossbar::Outputs;
 use domain_core::Domain;
 use script_text::count_lines;
@@ -91,10 +92,10 @@ fn take_end<I: BufRead>(input: &mut I, line: &mut Vec<u8>) -> Result<(), RecordF
 
 // Does lines again up to the end of the input. `first` is the number of the first line. Returns how many bytes come after the
 // last line feed.
-fn redo_lines<I: BufRead, O: Outputs + Drop>(
+fn redo_lines<I: BufRead, O: Outputs + Drop, W: ReplayWatch>(
     input: &mut I,
     line: &mut Vec<u8>,
-    redoing: &mut Redoing,
+    redoing: &mut Redoing<'_, W>,
     domain: &mut Domain<O>,
     first: u64,
 ) -> Result<usize, RecordFault>
@@ -121,9 +122,11 @@ fn redo_lines<I: BufRead, O: Outputs + Drop>(
 /// # Errors
 ///
 /// `Head` if it begins with another head than this; `Line` with the number of the first line that isn't one of a record or that
-/// the domain answers otherwise; `Io` if a read fails; `Memory`. What was done until then stays done.
-pub fn redo_record<I: BufRead, O: Outputs + Drop>(
+/// the domain answers otherwise; `Io` if a read fails; `Ended` if who watches ends it; `Memory`. What was done until then stays
+/// done.
+pub fn redo_record<I: BufRead, O: Outputs + Drop, W: ReplayWatch>(
     alloc: Global,
+    watch: &W,
     input: &mut I,
     head: &str,
     domain: &mut Domain<O>,
@@ -134,7 +137,7 @@ pub fn redo_record<I: BufRead, O: Outputs + Drop>(
     if !take_head(input, &mut line, head.as_bytes())? {
         return Ok(Redone::Beginning);
     }
-    let mut redoing = Redoing::new(alloc);
+    let mut redoing = Redoing::new(alloc, watch);
     let first = (count_lines(head.as_bytes()) as u64).saturating_add(1);
     let torn = redo_lines(input, &mut line, &mut redoing, domain, first)?;
     Ok(Redone::Lines { torn })

@@ -10,6 +10,7 @@ use crate::fault::RedoFault;
 use crate::known_lines::{KnownLines, LineMeaning};
 use crate::line::{CallLine, RecordedCall, read_call};
 use crate::node_loop::NodeLoop;
+use crate::watch::ReplayWatch;
 use crate::writing::write_line;
 use crossbar::Outputs;
 use domain_core::{By, Committed, Domain, Event, Refusal, Reply, Ticket};
@@ -20,10 +21,11 @@ use t414_step::Stepped;
 /// The most nodes of a domain.
 const MOST_NODES: usize = 8;
 
-/// What serves one line after another: a ticket for Steps, the loops in which nodes are, the lines that may come again, and a text
-/// to compare with.
-pub struct Redoing {
+/// What serves one line after another: a ticket for Steps, the loops in which nodes are, the lines that may come again, a text to
+/// compare with, and who watches.
+pub struct Redoing<'a, W: ReplayWatch> {
     alloc: Global,
+    watch: &'a W,
     ticket: Option<Ticket>,
     loops: [NodeLoop; MOST_NODES],
     known: KnownLines,
@@ -31,10 +33,11 @@ pub struct Redoing {
 }
 
 // Dropped by hand, since a derived `Drop` makes callers prove the drop of each field.
-impl Drop for Redoing {
+impl<W: ReplayWatch> Drop for Redoing<'_, W> {
     fn drop(self) {
         let Redoing {
             alloc: _,
+            watch: _,
             ticket: _,
             loops: _,
             known: _,
@@ -43,11 +46,12 @@ impl Drop for Redoing {
     }
 }
 
-impl Redoing {
+impl<'a, W: ReplayWatch> Redoing<'a, W> {
     /// It takes no memory yet.
-    pub fn new(alloc: Global) -> Redoing {
+    pub fn new(alloc: Global, watch: &'a W) -> Redoing<'a, W> {
         Redoing {
             alloc,
+            watch,
             ticket: None,
             loops: [NodeLoop::none(); MOST_NODES],
             known: KnownLines::new(alloc),
@@ -129,10 +133,12 @@ fn redo_burst<O: Outputs + Drop>(
     }
 }
 
-// Does Steps of a node, at least one, in as many bursts as what is known of its loop says. All of them ran.
+// Does Steps of a node, at least one, in as many bursts as what is known of its loop says, and tells who watches of each. All of
+// them ran.
 #[tactic(auto, using(crate::proofs::Steps::more_steps))]
-fn redo_steps<O: Outputs + Drop>(
+fn redo_steps<O: Outputs + Drop, W: ReplayWatch>(
     alloc: Global,
+    watch: &W,
     domain: &mut Domain<O>,
     slot: &mut Option<Ticket>,
     known: &mut NodeLoop,
@@ -147,9 +153,14 @@ fn redo_steps<O: Outputs + Drop>(
     }
     let mut done = known.first_steps(times);
     redo_burst(alloc, domain, slot, known, node, done)?;
+    watch.note_steps(done);
     while done < times {
+        if !watch.goes_on() {
+            return Err(RedoFault::Ended);
+        }
         let more = known.next_steps(done, times - done);
         redo_burst(alloc, domain, slot, known, node, more)?;
+        watch.note_steps(more);
         done += more;
     }
     Ok(())
@@ -165,8 +176,9 @@ fn is_rightly_asked(by: By, event: Event) -> bool {
 }
 
 // Does a call as often as it was made. `NoLine` if it was made several times, unless it is a Step.
-fn redo_call<O: Outputs + Drop>(
+fn redo_call<O: Outputs + Drop, W: ReplayWatch>(
     alloc: Global,
+    watch: &W,
     domain: &mut Domain<O>,
     slot: &mut Option<Ticket>,
     loops: &mut [NodeLoop; MOST_NODES],
@@ -188,7 +200,7 @@ fn redo_call<O: Outputs + Drop>(
             let Some(known) = loops.get_mut(usize::from(node)) else {
                 return Err(RedoFault::Differs);
             };
-            redo_steps(alloc, domain, slot, known, node, times)?;
+            redo_steps(alloc, watch, domain, slot, known, node, times)?;
             Ok(Reply::Stepped(Stepped::Ran))
         }
         _ => Err(RedoFault::NoLine),
@@ -196,17 +208,25 @@ fn redo_call<O: Outputs + Drop>(
 }
 
 // Does again what a line says that is kept.
-fn redo_known<O: Outputs + Drop>(
-    redoing: &mut Redoing,
+fn redo_known<O: Outputs + Drop, W: ReplayWatch>(
+    redoing: &mut Redoing<'_, W>,
     domain: &mut Domain<O>,
     meaning: LineMeaning,
 ) -> Result<(), RedoFault>
     ensures gains { OnOk result (GainsHistory (line_history (line_of_call meaning.call meaning.reply)) domain.old domain.new) }
     ensures some { OnOk result (1 ≤ meaning.call.times) }
 {
-    let alloc = redoing.alloc;
+    let (alloc, watch) = (redoing.alloc, redoing.watch);
     let LineMeaning { call, reply } = meaning;
-    if redo_call(alloc, domain, &mut redoing.ticket, &mut redoing.loops, call)? == reply {
+    if redo_call(
+        alloc,
+        watch,
+        domain,
+        &mut redoing.ticket,
+        &mut redoing.loops,
+        call,
+    )? == reply
+    {
         Ok(())
     } else {
         Err(RedoFault::Differs)
@@ -214,16 +234,23 @@ fn redo_known<O: Outputs + Drop>(
 }
 
 // Does again what a line says that isn't kept yet, and keeps it.
-fn redo_new<O: Outputs + Drop>(
-    redoing: &mut Redoing,
+fn redo_new<O: Outputs + Drop, W: ReplayWatch>(
+    redoing: &mut Redoing<'_, W>,
     domain: &mut Domain<O>,
     line: &[u8],
 ) -> Result<(), RedoFault>
     ensures { OnOk result (RedoesLine line.now domain.old domain.new) }
 {
-    let alloc = redoing.alloc;
+    let (alloc, watch) = (redoing.alloc, redoing.watch);
     let call = call_of(alloc, line)?;
-    let reply = redo_call(alloc, domain, &mut redoing.ticket, &mut redoing.loops, call)?;
+    let reply = redo_call(
+        alloc,
+        watch,
+        domain,
+        &mut redoing.ticket,
+        &mut redoing.loops,
+        call,
+    )?;
     let text = &mut redoing.text;
     text.clear();
     write_line(text, call.times, call.by, call.event, reply)?;
@@ -243,15 +270,18 @@ fn redo_new<O: Outputs + Drop>(
 /// # Errors
 ///
 /// `NoLine` if it isn't a line of a record, as a command of the farm itself or a Step of a user isn't, or not in its only
-/// form, and `Differs` if the domain answers otherwise or doesn't record it; `Memory`. The domain may then have done what the
+/// form, and `Differs` if the domain answers otherwise or doesn't record it; `Ended` if who watches ends it; `Memory`. The domain may then have done what the
 /// line says, or some of its Steps.
-pub fn redo_line<O: Outputs + Drop>(
-    redoing: &mut Redoing,
+pub fn redo_line<O: Outputs + Drop, W: ReplayWatch>(
+    redoing: &mut Redoing<'_, W>,
     domain: &mut Domain<O>,
     line: &[u8],
 ) -> Result<(), RedoFault>
     ensures { OnOk result (RedoesLine line.now domain.old domain.new) }
 {
+    if !redoing.watch.goes_on() {
+        return Err(RedoFault::Ended);
+    }
     match redoing.known.find(line) {
         Some(meaning) => {
             redo_known(redoing, domain, meaning)?;

@@ -3,16 +3,15 @@ ghost use Rattle.std.specs.Prelude.{◌<◌, length};
 
 use crate::failure::FileFailure;
 use crate::names::first_name;
-use crate::record_file::{OlderRecord, record_path};
+use crate::record_file::{OlderRecord, disk_bytes, record_path};
 use crate::record_folder::RecordFolder;
-use crate::redoing::TakenRecord;
+use domain_core::NoMemory;
 use farm_records::{HeadFault, RecordFault, head_of};
-use farm_service::{Histories, SeatedDomain};
 use plan_checker::AcceptedPlan;
 use std::alloc::{Alloc, Global};
 use std::collections::VecDeque;
 use std::fs::{self, File, Files, OpenOptions};
-use std::{io, mem};
+use std::io;
 
 /// The newest record of a domain, before any file changes.
 #[derive(Drop)]
@@ -23,38 +22,18 @@ pub(crate) struct FoundRecord {
     pub(crate) number: u64,
     pub(crate) path: String,
     /// The records before it that are there, the oldest first.
-    pub(crate) older: VecDeque<OlderRecord>,
-    /// Its file, until it is done again.
-    pub(crate) file: Option<File>,
-    /// What became of it then.
-    pub(crate) taken: Option<Result<TakenRecord, RecordFault>>,
+    pub(crate) older: Vec<OlderRecord>,
 }
 
 impl FoundRecord {
-    /// Whether it is to be done again yet.
-    pub(crate) fn is_left(&self) -> bool {
-        self.file.is_some()
-    }
-
-    /// Whether it was done again and has a whole head.
-    pub(crate) fn is_taken(&self) -> bool {
-        matches!(&self.taken, Some(Ok(taken)) if taken.whole > 0)
-    }
-
-    /// Why it isn't taken, if that is so.
-    pub(crate) fn fault(&self) -> Option<&RecordFault> {
-        match &self.taken {
-            Some(Err(fault)) => Some(fault),
-            _ => None,
+    /// The records before it that are there, the oldest first.
+    pub(crate) fn older_records(&self, alloc: Global) -> Result<VecDeque<OlderRecord>, NoMemory> {
+        let mut older = VecDeque::with_capacity(alloc, self.older.len())?;
+        for record in &self.older {
+            older.push_back(*record)?;
         }
+        Ok(older)
     }
-}
-
-/// A domain with its newest record.
-#[derive(Drop)]
-pub(crate) struct DomainStart {
-    pub(crate) domain: SeatedDomain,
-    pub(crate) found: FoundRecord,
 }
 
 // The number of a record of a domain whose first user is called so, if it is the name of one: `NAME.replay` or `NAME.N.replay`.
@@ -84,7 +63,7 @@ fn records_in<F: Files<File = File> + Alloc<A = Global> + Clone + Drop>(
     for entry in fs::read_dir(files, folder)? {
         let entry = entry?;
         if let Some(number) = record_number(name, entry.file_name()) {
-            let bytes = entry.metadata()?.len();
+            let bytes = disk_bytes(entry.metadata()?.len());
             records.push(OlderRecord { number, bytes })?;
         }
     }
@@ -103,8 +82,11 @@ fn record_head(alloc: Global, plan: &AcceptedPlan, number: u8) -> Result<String,
     }
 }
 
-// Opens a record that is there.
-fn open_found<F: Files<File = File>>(files: &F, path: &str) -> Result<File, RecordFault> {
+/// Opens a record that is there.
+pub(crate) fn open_found<F: Files<File = File>>(
+    files: &F,
+    path: &str,
+) -> Result<File, RecordFault> {
     OpenOptions::new()
         .read(true)
         .append(true)
@@ -114,20 +96,14 @@ fn open_found<F: Files<File = File>>(files: &F, path: &str) -> Result<File, Reco
 
 impl<'a, F: Files<File = File> + Alloc<A = Global> + Clone + Drop> RecordFolder<'a, F> {
     // The records of a domain whose first user is called so, the oldest first.
-    fn records_of(&self, name: &str) -> Result<VecDeque<OlderRecord>, FileFailure> {
+    fn records_of(&self, name: &str) -> Result<Vec<OlderRecord>, FileFailure> {
         let folder = self.path.as_str();
-        let records = match records_in(self.files, self.alloc, folder, name) {
-            Ok(records) => records,
-            Err(error) => return Err(FileFailure::of_file(self.alloc, folder, error)),
-        };
-        let mut older = VecDeque::with_capacity(self.alloc, records.len())?;
-        for record in records {
-            older.push_back(record)?;
-        }
-        Ok(older)
+        records_in(self.files, self.alloc, folder, name).map_err(|error| FileFailure::of_file(
+            self.alloc, folder, error,
+        ))
     }
 
-    // The newest record of a domain, which isn't done again yet.
+    // The newest record of a domain.
     fn find_record(
         &self,
         plan: &AcceptedPlan,
@@ -141,7 +117,7 @@ impl<'a, F: Files<File = File> + Alloc<A = Global> + Clone + Drop> RecordFolder<
         let folder = self.path.as_str();
         let stem = format!(in self.alloc; "{folder}/{name}")?;
         let mut older = self.records_of(name)?;
-        let newest = match older.pop_back() {
+        let newest = match older.pop() {
             Some(record) => record.number,
             None => 0,
         };
@@ -150,40 +126,29 @@ impl<'a, F: Files<File = File> + Alloc<A = Global> + Clone + Drop> RecordFolder<
             let why = "it is there already: --resume goes on with it";
             return Err(FileFailure::of_record(self.alloc, path.as_str(), why));
         }
-        let mut found = FoundRecord {
+        Ok(FoundRecord {
             head,
             stem,
             number: newest,
             path,
             older,
-            file: None,
-            taken: None,
-        };
-        if newest > 0 {
-            match open_found(self.files, found.path.as_str()) {
-                Ok(file) => found.file = Some(file),
-                Err(fault) => found.taken = Some(Err(fault)),
-            }
-        }
-        Ok(found)
+        })
     }
 
-    /// All domains, which the histories have no more then, each with its newest record.
+    /// The newest record of each domain of a plan.
     ///
     /// # Errors
     ///
     /// `Record` if a record is there and the farm doesn't go on with it, `System`, `Histories` and `Memory`.
     pub(crate) fn find_records(
         &self,
-        histories: &mut Histories,
+        plan: &AcceptedPlan,
         resumes: bool,
-    ) -> Result<Vec<DomainStart>, FileFailure> {
-        let domains = mem::replace(&mut histories.domains, Vec::new(self.alloc));
-        let mut starts = Vec::with_capacity(self.alloc, domains.len())?;
-        for (number, domain) in (0..u8::MAX).zip(domains) {
-            let found = self.find_record(histories.plan(), number, resumes)?;
-            starts.push(DomainStart { domain, found })?;
+    ) -> Result<Vec<FoundRecord>, FileFailure> {
+        let mut records = Vec::with_capacity(self.alloc, usize::from(plan.domains()))?;
+        for number in 0..plan.domains() {
+            records.push(self.find_record(plan, number, resumes)?)?;
         }
-        Ok(starts)
+        Ok(records)
     }
 }

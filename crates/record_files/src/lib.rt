@@ -3,6 +3,7 @@
 
 mod failure;
 mod finding;
+mod meter;
 mod names;
 mod notices;
 mod opening;
@@ -10,9 +11,13 @@ mod progress;
 mod record_file;
 mod record_folder;
 mod redoing;
+mod replay;
 
 pub use failure::FileFailure;
+pub use meter::ReplayMeter;
 pub use names::names_of;
 pub use notices::Notices;
+pub use opening::OpenedRecords;
 pub use record_file::{FileRecords, RecordFile};
 pub use record_folder::RecordFolder;
+pub use replay::{FileReplay, ReplayOutputs};

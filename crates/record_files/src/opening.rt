@@ -1,191 +1,110 @@
-//! The records of a farm that is opened: those that are there are done again, and then each is opened for what comes.
+//! The records of a farm that is opened: one that is there is to be replayed, and else the first one begins.
 
 use crate::failure::FileFailure;
-use crate::finding::{DomainStart, FoundRecord};
-use crate::names::{first_name, names_of};
-use crate::notices::Notices;
-use crate::record_file::{FileRecords, RecordFile, RecordPlace, record_path};
+use crate::finding::{FoundRecord, open_found};
+use crate::record_file::{FileRecords, RecordFile, RecordPlace};
 use crate::record_folder::RecordFolder;
-use crate::redoing::{find_fault, redo_all};
-use domain_core::NoMemory;
-use farm_records::RecordFault;
-use farm_service::{Histories, SeatedDomain};
+use crate::replay::{FileReplay, RecordStart};
+use domain_core::{Journal, NoMemory};
 use plan_checker::AcceptedPlan;
 use record_keeping::{DomainRecord, RecordStore};
 use std::alloc::{Alloc, Global};
-use std::collections::VecDeque;
 use std::fs::{File, Files};
-use std::sync::{Mutex, Wait};
-use std::thread::Threads;
+use std::sync::Mutex;
+
+/// The records of all domains, in the order of the plan, and what is to be replayed of each.
+pub struct OpenedRecords<'a, F: Files<File = File>> {
+    /// The records for what comes. One that is to be replayed can't be taken until then.
+    pub records: FileRecords<'a, F>,
+    /// What is to be replayed.
+    pub replays: Vec<FileReplay<'a, F>>,
+}
+
+// Dropped by hand, since a derived `Drop` makes callers prove the drop of each field.
+impl<F: Files<File = File>> Drop for OpenedRecords<'_, F> {
+    fn drop(self) {
+        let OpenedRecords {
+            records: _,
+            replays: _,
+        } = self;
+    }
+}
 
 impl<'a, F: Files<File = File> + Alloc<A = Global> + Clone + Drop> RecordFolder<'a, F> {
     // The place of a domain's records, whose paths begin with this.
-    fn place(&self, stem: String) -> Result<RecordPlace<'a, F>, NoMemory> {
+    fn place(&self, stem: &str) -> Result<RecordPlace<'a, F>, NoMemory> {
         Ok(RecordPlace {
             files: self.files,
             alloc: self.alloc,
             folder: String::from_str(self.alloc, self.path.as_str())?,
-            stem,
+            stem: String::from_str(self.alloc, stem)?,
             syncs: self.syncs,
         })
-    }
-
-    // Reports that `cut` bytes of a record are cut off.
-    fn tell_cut<R: Wait, N: Notices>(
-        &self,
-        rt: &R,
-        path: &str,
-        cut: u64,
-        errors: &N,
-    ) -> Result<(), NoMemory> {
-        let line = format!(in self.alloc;
-            "{path}: {cut} bytes behind the last whole line are cut off\n"
-        )?;
-        errors.tell(rt, line.as_str());
-        Ok(())
-    }
-
-    // Reports that a record can't be taken, and what may be done.
-    fn tell_out<R: Wait, N: Notices>(
-        &self,
-        rt: &R,
-        plan: &AcceptedPlan,
-        number: u8,
-        found: &FoundRecord,
-        fault: &RecordFault,
-        errors: &N,
-    ) -> Result<(), FileFailure> {
-        let path = found.path.as_str();
-        let next = record_path(
-            self.alloc,
-            found.stem.as_str(),
-            found.number.saturating_add(1),
-        )?;
-        let name = first_name(plan, number).unwrap_or("");
-        let names = names_of(self.alloc, plan, number)?;
-        let lines = format!(in self.alloc;
-            "{path}: {fault}\n{path}: lines of {names} are answered record. The operator's !restart {name} begins their domain anew with {next}, and this file stays as it is. Or stop, mend this file or move it away, and start again\n"
-        )?;
-        errors.tell(rt, lines.as_str());
-        Ok(())
-    }
-
-    // Reports all records that can't be taken.
-    fn tell_faults<R: Wait, N: Notices>(
-        &self,
-        rt: &R,
-        plan: &AcceptedPlan,
-        starts: &[DomainStart],
-        errors: &N,
-    ) -> Result<(), FileFailure> {
-        for (number, start) in (0..u8::MAX).zip(starts) {
-            if let Some(fault) = start.found.fault() {
-                self.tell_out(rt, plan, number, &start.found, fault, errors)?;
-            }
-        }
-        Ok(())
-    }
-
-    // Opens a record that was done again: cuts off this many bytes after what is whole, and writes its head if it has none.
-    fn open_taken<R: Wait, N: Notices>(
-        &self,
-        rt: &R,
-        mut file: RecordFile<'a, F>,
-        cut: u64,
-        path: &str,
-        head: &str,
-        errors: &N,
-    ) -> Result<RecordFile<'a, F>, FileFailure> {
-        if cut > 0 {
-            if let Err(error) = file.cut_back() {
-                return Err(FileFailure::of_file(self.alloc, path, error));
-            }
-            self.tell_cut(rt, path, cut, errors)?;
-        }
-        if file.bytes() == 0
-            && let Err(error) = file.append(head)
-        {
-            return Err(FileFailure::of_file(self.alloc, path, error));
-        }
-        Ok(file)
     }
 
     // Begins the first record of a domain.
     fn open_first(
         &self,
-        place: RecordPlace<'a, F>,
-        path: &str,
-        head: &str,
-    ) -> Result<RecordFile<'a, F>, FileFailure> {
-        let mut file = RecordFile::behind(place, 0, VecDeque::new(self.alloc));
-        match file.begin_next(head) {
-            Ok(()) => Ok(file),
-            Err(error) => Err(FileFailure::of_file(self.alloc, path, error)),
+        found: FoundRecord,
+    ) -> Result<DomainRecord<RecordFile<'a, F>>, FileFailure> {
+        let older = found.older_records(self.alloc)?;
+        let mut file = RecordFile::behind(self.place(found.stem.as_str())?, 0, older);
+        match file.begin_next(found.head.as_str()) {
+            Ok(()) => {
+                let journal = Journal::new(self.alloc);
+                Ok(DomainRecord::of(self.alloc, file, found.head, &journal)?)
+            }
+            Err(error) => {
+                let path = found.path.as_str();
+                Err(FileFailure::of_file(self.alloc, path, error))
+            }
         }
     }
 
-    // Opens a domain's record for what comes. One that can't be taken is left as it is.
-    fn open_record<R: Wait, N: Notices>(
+    // The record of a domain that is there, which can't be taken before it is replayed.
+    fn behind_found(
         &self,
-        rt: &R,
-        domain: &SeatedDomain,
-        found: FoundRecord,
-        errors: &N,
-    ) -> Result<DomainRecord<RecordFile<'a, F>>, FileFailure> {
-        let FoundRecord {
-            head,
-            stem,
-            number,
-            path,
-            older,
-            file: _,
-            taken,
-        } = found;
-        let place = self.place(stem)?;
-        let path = path.as_str();
-        let file = match taken {
-            Some(Err(_)) => {
-                let file = RecordFile::behind(place, number, older);
-                return Ok(DomainRecord::out(self.alloc, file, head)?);
-            }
-            Some(Ok(taken)) => {
-                let cut = taken.length.saturating_sub(taken.whole);
-                let file = RecordFile::with_file(place, number, taken.file, taken.whole, older);
-                self.open_taken(rt, file, cut, path, head.as_str(), errors)?
-            }
-            None => self.open_first(place, path, head.as_str())?,
-        };
-        Ok(DomainRecord::of(self.alloc, file, head, domain.journal())?)
+        found: &FoundRecord,
+    ) -> Result<DomainRecord<RecordFile<'a, F>>, NoMemory> {
+        let older = found.older_records(self.alloc)?;
+        let file = RecordFile::behind(self.place(found.stem.as_str())?, found.number, older);
+        let head = String::from_str(self.alloc, found.head.as_str())?;
+        DomainRecord::out(self.alloc, file, head)
     }
 
-    /// Opens the records of all domains. If the farm resumes, the newest record of each domain is done again on it first, in a
-    /// thread for each where one can be made. No file changes before all of that is done. Then what isn't whole of a record is cut
-    /// off, and a notice says so. A domain whose record can't be taken is as it was opened, and nothing is recorded of it until it
-    /// begins again. Its file stays as it is, and a notice says what may be done.
+    // What is to be replayed of a domain.
+    fn start_of(&self, found: FoundRecord) -> Result<RecordStart<'a, F>, NoMemory> {
+        Ok(RecordStart {
+            place: self.place(found.stem.as_str())?,
+            file: open_found(self.files, found.path.as_str()),
+            found,
+        })
+    }
+
+    /// Opens the records of all domains of a plan. The newest record of a domain that has one stays as it is until it is replayed,
+    /// which is left to [`FileReplay::replay`]; else its first record begins.
     ///
     /// # Errors
     ///
-    /// `Record` if a record can't be taken and no other was, or if a record is there and the farm doesn't resume; `System` if a
-    /// call of the system failed. Each names its file. `Memory` if that ran out of memory, and `Histories` if they aren't those of
-    /// a plan. After an error the histories may lack domains.
-    pub fn open_records<R: Threads + Wait + Sync, N: Notices + Sync>(
+    /// `Record` if a record is there and the farm doesn't resume; `System` if a call of the system failed. Each names its file.
+    /// `Memory` if that ran out of memory, and `Histories` if a domain has no users. No file changes before all records are found.
+    pub fn open_records(
         &self,
-        rt: &R,
-        histories: &mut Histories,
+        plan: &AcceptedPlan,
         resumes: bool,
-        errors: &N,
-    ) -> Result<FileRecords<'a, F>, FileFailure> {
-        let mut starts = self.find_records(histories, resumes)?;
-        redo_all(rt, self.alloc, starts.as_mut_slice(), errors);
-        find_fault(self.alloc, starts.as_slice())?;
-        self.tell_faults(rt, histories.plan(), starts.as_slice(), errors)?;
-        let mut records = Vec::with_capacity(self.alloc, starts.len())?;
-        for start in starts {
-            let DomainStart { domain, found } = start;
-            let record = self.open_record(rt, &domain, found, errors)?;
-            histories.domains.push(domain)?;
-            records.push(Mutex::new(record))?;
+    ) -> Result<OpenedRecords<'a, F>, FileFailure> {
+        let found = self.find_records(plan, resumes)?;
+        let mut records = Vec::with_capacity(self.alloc, found.len())?;
+        let mut replays = Vec::with_capacity(self.alloc, found.len())?;
+        for found in found {
+            if found.number == 0 {
+                records.push(Mutex::new(self.open_first(found)?))?;
+                replays.push(FileReplay::none(self.alloc))?;
+            } else {
+                records.push(Mutex::new(self.behind_found(&found)?))?;
+                replays.push(FileReplay::of(self.alloc, self.start_of(found)?))?;
+            }
         }
-        Ok(records)
+        Ok(OpenedRecords { records, replays })
     }
 }

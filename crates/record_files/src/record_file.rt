@@ -71,6 +71,17 @@ impl<F: Files<File = File>> Drop for RecordFile<'_, F> {
     }
 }
 
+/// The least that a file takes on a disk, in bytes.
+const BLOCK_BYTES: u64 = 4096;
+
+/// How many bytes a file of this length takes on a disk: whole blocks, and at least one.
+pub(crate) fn disk_bytes(length: u64) -> u64 {
+    length
+        .max(1)
+        .div_ceil(BLOCK_BYTES)
+        .saturating_mul(BLOCK_BYTES)
+}
+
 /// The path of a domain's record of this number, from 1.
 pub(crate) fn record_path(alloc: Global, stem: &str, number: u64) -> Result<String, NoMemory> {
     if number == 1 {
@@ -172,7 +183,7 @@ impl<'a, F: Files<File = File>> RecordStore for RecordFile<'a, F> {
         if self.file.is_some() {
             let before = OlderRecord {
                 number: self.number,
-                bytes: self.whole,
+                bytes: disk_bytes(self.whole),
             };
             self.older.push_back(before)?;
         }
@@ -190,7 +201,7 @@ impl<'a, F: Files<File = File>> RecordStore for RecordFile<'a, F> {
     }
 
     fn bytes(&self) -> u64 {
-        self.whole
+        disk_bytes(self.whole)
     }
 
     fn older_bytes(&self) -> u64 {

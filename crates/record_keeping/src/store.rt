@@ -52,7 +52,7 @@ pub trait RecordStore: Drop {
         ensures cut { OnOk result (contents self.new ≡ whole self.old) }
         ensures stays { whole self.new ≡ whole self.old };
 
-    /// How many bytes of the record that is written to are whole.
+    /// How many bytes the record that is written to takes, as its place counts them.
     fn bytes(&self) -> u64;
 
     /// How many bytes the older records of the domain take.
