@@ -4,11 +4,10 @@
 ghost use Rattle.live_lines.specs.LiveRanges.{IsInRange};
 
 use clap::error::ErrorKind;
-use farm_service::{Histories, Room};
-use live_farm::{LiveFailure, LiveOutputs, Outlet, SharedOutlet, no_records, run_live};
+use live_farm::{LiveFailure, LiveOutputs, Outlet, SharedOutlet, no_records, no_replays, run_live};
 use live_lines::{LiveSettings, live_settings};
 use plan_checker::{AcceptedPlan, accept_plan};
-use record_files::{FileFailure, FileRecords, Notices, RecordFolder};
+use record_files::{FileFailure, Notices, OpenedRecords, RecordFolder};
 use script_text::{ReadFault, read_whole, write_whole};
 use std::fs::File;
 use std::io::{self, BufRead, BufReader};
@@ -56,34 +55,32 @@ fn serve<R: Threads + Wait + Sync, I: BufRead + Send, O: SharedOutlet + Sync, N:
 ) -> Result<(), LiveFailure> {
     let alloc = files.alloc();
     let Start { settings, plan } = start;
-    let room = Room::of(settings.room);
     match &settings.records {
         Some(records) => {
             let path = records.path.as_str();
             let folder = RecordFolder::open(files, alloc, path, records.syncs)?;
-            let mut histories = Histories::open_within(alloc, plan, room)?;
-            let kept: FileRecords<'_, HostRuntime> = folder.open_records(
-                rt,
-                &mut histories,
+            let opened: OpenedRecords<'_, HostRuntime> = folder.open_records(
+                &plan,
                 records.resumes,
-                errors,
             )?;
             let outputs = LiveOutputs {
-                records: kept.as_slice(),
+                records: opened.records.as_slice(),
+                replays: opened.replays.as_slice(),
                 outlet,
                 errors,
             };
-            run_live(rt, alloc, histories, &settings, &outputs, input, gauge)?;
+            run_live(rt, alloc, plan, &settings, &outputs, input, gauge)?;
         }
         None => {
-            let histories = Histories::open_within(alloc, plan, room)?;
-            let records = no_records(alloc, histories.plan())?;
+            let records = no_records(alloc, &plan)?;
+            let replays = no_replays(alloc, &plan)?;
             let outputs = LiveOutputs {
                 records: records.as_slice(),
+                replays: replays.as_slice(),
                 outlet,
                 errors,
             };
-            run_live(rt, alloc, histories, &settings, &outputs, input, gauge)?;
+            run_live(rt, alloc, plan, &settings, &outputs, input, gauge)?;
         }
     }
     Ok(())

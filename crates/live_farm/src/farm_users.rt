@@ -9,7 +9,7 @@ use crate::failure::LiveFailure;
 use crate::group::UserGroup;
 use crate::mailbox::Mailbox;
 use crate::queued::{QueuedLine, QueuedRequest};
-use crate::station::Station;
+use crate::station::{DomainBounds, Station};
 use domain_core::NoMemory;
 use farm_service::{Committed, Gate, Refusal, Service, Token, UserPass};
 use line_answers::Quantum;
@@ -106,12 +106,12 @@ fn add_stations<'a>(
     alloc: Global,
     groups: Vec<UserGroup<'a>>,
     farm_users: &mut FarmUsers<'a>,
-    record_room: u64,
+    bounds: DomainBounds,
 ) -> Result<(), NoMemory>
     ensures { OnOk result ((farm_users.new.numbers ≡ farm_users.old.numbers) × (farm_users.new.names ≡ farm_users.old.names)) }
 {
     for group in groups {
-        add_station(alloc, group, farm_users, record_room)?;
+        add_station(alloc, group, farm_users, bounds)?;
     }
     Ok(())
 }
@@ -121,11 +121,11 @@ fn add_station<'a>(
     alloc: Global,
     group: UserGroup<'a>,
     farm_users: &mut FarmUsers<'a>,
-    record_room: u64,
+    bounds: DomainBounds,
 ) -> Result<(), NoMemory>
     ensures { (farm_users.new.numbers ≡ farm_users.old.numbers) × (farm_users.new.names ≡ farm_users.old.names) }
 {
-    let station = Station::new(alloc, group, record_room)?;
+    let station = Station::new(alloc, group, bounds)?;
     farm_users.stations.push(station)?;
     Ok(())
 }
@@ -184,7 +184,7 @@ impl Gate for RestGate<'_, '_> {
 }
 
 impl<'a> FarmUsers<'a> {
-    /// The users of a service, by the passes of its opening, in their order. The records of a domain may take `record_room` bytes.
+    /// The users of a service, by the passes of its opening, in their order. Each domain has these bounds.
     ///
     /// # Errors
     ///
@@ -194,7 +194,7 @@ impl<'a> FarmUsers<'a> {
         service: &'a Service,
         users: Vec<UserPass>,
         quantum: Quantum,
-        record_room: u64,
+        bounds: DomainBounds,
     ) -> Result<FarmUsers<'a>, LiveFailure>
         ensures numbers { IfOk result (λ farm_users. farm_users.numbers.items ≡ map user_number_of users.items) }
         ensures names { IfOk result (λ farm_users. map (λ n. Some n.now) farm_users.names.items
@@ -208,7 +208,7 @@ impl<'a> FarmUsers<'a> {
             stations: Vec::new(alloc),
         };
         join_all(service, &mut groups, &mut farm_users, users)?;
-        add_stations(alloc, groups, &mut farm_users, record_room)?;
+        add_stations(alloc, groups, &mut farm_users, bounds)?;
         Ok(farm_users)
     }
 

@@ -3,9 +3,12 @@ ghost use Rattle.std.specs.Prelude.{◌≡◌, ◌<◌, length, vec_len};
 ghost use Rattle.farm_service.specs.Restarts.{AreInOrder};
 ghost use Rattle.live_farm.specs.Names.{AreTheirNames};
 
+use crate::replay::Replay;
 use domain_core::NoMemory;
 use farm_service::{Service, Session, UserPass};
 use line_answers::Quantum;
+use record_files::{Notices, ReplayOutputs};
+use std::sync::Wait;
 
 /// The users of a domain, by their numbers there, each in a session of their own.
 pub struct UserGroup<'a> {
@@ -34,6 +37,17 @@ impl Drop for UserGroup<'_> {
 }
 
 impl UserGroup<'_> {
+    /// Replays what is to be replayed of the domain.
+    pub fn replay<R: Wait, K, P: Replay<K>, N: Notices>(
+        &mut self,
+        rt: &R,
+        replay: &P,
+        outputs: &ReplayOutputs<'_, K, N>,
+    ) {
+        let (service, domain) = (self.service, self.domain);
+        replay.replay(rt, service, domain, self.sessions.as_mut_slice(), outputs);
+    }
+
     /// Ends all sessions, and adds their passes.
     pub fn end(self, passes: &mut Vec<UserPass>) -> Result<(), NoMemory> {
         let UserGroup {

@@ -124,11 +124,12 @@ impl Mailbox {
         self.changed.notify_one();
     }
 
-    /// Says that no more lines come.
-    pub fn close<R: Wait>(&self, rt: &R) {
+    /// Says that no more lines come; whether some wait yet.
+    pub fn close<R: Wait>(&self, rt: &R) -> bool {
         let mut lines = self.lines.lock(rt);
         lines.closed = true;
         self.changed.notify_all();
+        !lines.waiting.is_empty()
     }
 
     /// Waits for a line or for news, and takes it.

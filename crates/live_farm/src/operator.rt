@@ -24,9 +24,12 @@ pub struct Operator<'a> {
     ghost its: { IsItsOperator service.now seat },
 }
 
-// What is added to the line of a user if what the user's domain answers isn't recorded.
-fn record_word(state: RecordState) -> &'static str {
-    match state {
+// What is added to the line of a user if the record of the user's domain is replayed, or what it answers isn't recorded.
+fn record_word(station: &Station<'_>) -> &'static str {
+    if station.meter.is_under_way() {
+        return " replaying";
+    }
+    match station.record_state() {
         RecordState::Kept => "",
         RecordState::Unrecorded => " unrecorded",
         RecordState::Out => " out",
@@ -50,7 +53,7 @@ fn line_of(
         room: RoomStatus { bytes, rests, .. },
         ..
     } = status;
-    let state = record_word(station.record_state());
+    let state = record_word(station);
     let rest = if rests.is_some() { " rests" } else { "" };
     let (records, record_room) = (station.record_bytes(), station.record_room());
     LiveAnswer::line(format!(in alloc;
@@ -121,12 +124,30 @@ impl<'a> Operator<'a> {
         let Some(station) = farm_users.stations.get(usize::from(domain)) else {
             return Ok(None);
         };
-        match self.service.status(rt, domain) {
-            Ok(status) => {
-                let (answered, room) = (station.answered_lines(user), self.service.room().bytes());
-                Ok(Some(line_of(alloc, name, answered, status, room, station)?))
-            }
-            Err(_) => Ok(None),
+        let Some(status) = self.status(rt, domain, station) else {
+            return Ok(None);
+        };
+        let (answered, room) = (station.answered_lines(user), self.service.room().bytes());
+        Ok(Some(line_of(alloc, name, answered, status, room, station)?))
+    }
+
+    // How it is with a domain. One that is replayed has done so many Steps, and its lock isn't waited for.
+    fn status<R: Wait>(&self, rt: &R, domain: u8, station: &Station<'_>) -> Option<DomainStatus> {
+        if !station.meter.is_under_way() {
+            return self.service.status(rt, domain).ok();
         }
+        if domain >= self.service.plan().domains() {
+            return None;
+        }
+        Some(DomainStatus {
+            recorded: station.meter.steps(),
+            limit: self.service.plan().part(domain).limit(),
+            is_quiet: false,
+            room: RoomStatus {
+                bytes: 0,
+                room_bytes: self.service.room().bytes(),
+                rests: None,
+            },
+        })
     }
 }

@@ -15,13 +15,13 @@ use crate::operator::Operator;
 use crate::outlet::SharedOutlet;
 use crate::outputs::LiveOutputs;
 use crate::record::{RecordOutputs, RecordState, SharedRecord, keep_and_tell};
+use crate::replay::Replay;
+use crate::station::DomainBounds;
 use crate::threads::run_farm_users;
-use domain_core::Refusal;
-use farm_service::{
-    Closed, Histories, Opened, Service, UserPass, WorkerPass, run_users_and_workers,
-};
+use farm_service::{Closed, Opened, Room, Service, UserPass, WorkerPass, run_users_and_workers};
 use line_answers::Quantum;
 use live_lines::LiveSettings;
+use plan_checker::AcceptedPlan;
 use record_files::Notices;
 use std::alloc::Global;
 use std::fs::File;
@@ -43,6 +43,7 @@ struct LiveReader<'a, 'b, I: BufRead> {
 fn run_all<
     R: Threads + Wait + Sync,
     K: SharedRecord + Sync,
+    P: Replay<K> + Sync,
     I: BufRead + Send,
     O: SharedOutlet + Sync,
     N: Notices + Sync,
@@ -52,7 +53,7 @@ fn run_all<
     passes: &mut Vec<WorkerPass>,
     steps: u64,
     farm_users: &FarmUsers<'_>,
-    outputs: &LiveOutputs<'_, K, O, N>,
+    outputs: &LiveOutputs<'_, K, P, O, N>,
     reader: &mut LiveReader<'_, '_, I>,
 ) -> Result<(), LiveFailure>
     requires steps { (1 ≤ steps) × (steps ≤ 4096) }
@@ -88,6 +89,7 @@ fn run_all<
 fn serve_all<
     R: Threads + Wait + Sync,
     K: SharedRecord + Sync,
+    P: Replay<K> + Sync,
     I: BufRead + Send,
     O: SharedOutlet + Sync,
     N: Notices + Sync,
@@ -97,7 +99,7 @@ fn serve_all<
     passes: &mut Vec<WorkerPass>,
     users: Vec<UserPass>,
     settings: &LiveSettings,
-    outputs: &LiveOutputs<'_, K, O, N>,
+    outputs: &LiveOutputs<'_, K, P, O, N>,
     reader: &mut LiveReader<'_, '_, I>,
 ) -> Result<Vec<UserPass>, LiveFailure>
     requires settings { IsInRange settings.now }
@@ -109,7 +111,11 @@ fn serve_all<
     let alloc = reader.alloc;
     let quantum = Quantum::of(settings.quantum);
     let room = Vec::with_capacity(alloc, users.len())?;
-    let farm_users = FarmUsers::new(alloc, service, users, quantum, settings.record_room)?;
+    let bounds = DomainBounds {
+        record_room: settings.record_room,
+        line_steps: settings.line_steps,
+    };
+    let farm_users = FarmUsers::new(alloc, service, users, quantum, bounds)?;
     run_all(
         rt,
         service,
@@ -149,13 +155,13 @@ fn keep_last<R: Wait, K: SharedRecord, N: Notices>(
 }
 
 // The same for the domain's record among all, if it has one.
-fn keep_at<R: Wait, K: SharedRecord, O: SharedOutlet, N: Notices>(
+fn keep_at<R: Wait, K: SharedRecord, P: Replay<K>, O: SharedOutlet, N: Notices>(
     rt: &R,
     alloc: Global,
     service: &Service,
     domain: u8,
     passes: &[UserPass],
-    outputs: &LiveOutputs<'_, K, O, N>,
+    outputs: &LiveOutputs<'_, K, P, O, N>,
 ) -> Result<(), LiveFailure>
     ensures kept { OnOk result (HasListedAt K.has_kept K.was_out service.now.plan passes.now outputs.now.records.now domain) }
     ensures asked { WasAskedAt K.was_asked service.now.plan passes.now outputs.now.records.now domain }
@@ -181,12 +187,12 @@ fn later_failure(
 
 // Records what the domains answered since their last lines. All threads have ended. Each record is asked, whatever became of those
 // before it. If several records aren't whole, the failure is that of the last.
-fn keep_rest<R: Wait, K: SharedRecord, O: SharedOutlet, N: Notices>(
+fn keep_rest<R: Wait, K: SharedRecord, P: Replay<K>, O: SharedOutlet, N: Notices>(
     rt: &R,
     alloc: Global,
     service: &Service,
     passes: &[UserPass],
-    outputs: &LiveOutputs<'_, K, O, N>,
+    outputs: &LiveOutputs<'_, K, P, O, N>,
 ) -> Result<(), LiveFailure>
     ensures kept { OnOk result (HaveListed K.has_kept K.was_out service.now.plan passes.now outputs.now.records.now) }
     ensures asked { AllWereAsked K.was_asked service.now.plan passes.now outputs.now.records.now }
@@ -221,36 +227,51 @@ fn close<R: Wait>(
     }
 }
 
-/// Opens a farm on histories, answers the lines of an input as they come, and closes the farm with the passes of all users when
+// Bounds the events of each domain, and holds workers back from those of which something is to be replayed.
+fn bound_domains<R: Wait, K, P: Replay<K>>(
+    rt: &R,
+    service: &Service,
+    restart_steps: u64,
+    replays: &[P],
+) {
+    for (domain, replay) in (0..u8::MAX).zip(replays) {
+        service.bound_events(domain, restart_steps);
+        if replay.is_left(rt) {
+            service.hold_back(domain);
+        }
+    }
+}
+
+/// Opens a farm on a plan, answers the lines of an input as they come, and closes the farm with the passes of all users when
 /// the input ends or the operator stops it. What each domain answers is recorded, in the record of its place, before the answer
 /// is written. The gauge is the file in which the system says how much memory the program has.
 // Six clauses: the settings, what closing vouches for, and what the records have.
 pub fn run_live<
     R: Threads + Wait + Sync,
     K: SharedRecord + Sync,
+    P: Replay<K> + Sync,
     I: BufRead + Send,
     O: SharedOutlet + Sync,
     N: Notices + Sync,
 >(
     rt: &R,
     alloc: Global,
-    histories: Histories,
+    plan: AcceptedPlan,
     settings: &LiveSettings,
-    outputs: &LiveOutputs<'_, K, O, N>,
+    outputs: &LiveOutputs<'_, K, P, O, N>,
     input: &mut I,
     gauge: Option<File>,
 ) -> Result<Closed, LiveFailure>
     requires { IsInRange settings.now }
-    ensures domains { IfOk result (λ closed. AreDomainsOf histories.plan closed.domains.items) }
-    ensures runs { IfOk result (λ closed. EachMergeRuns (places_of histories.plan) closed.domains.items) }
-    ensures users { IfOk result (λ closed. AreUsersListed histories.plan closed.domains.items) }
+    ensures domains { IfOk result (λ closed. AreDomainsOf plan closed.domains.items) }
+    ensures runs { IfOk result (λ closed. EachMergeRuns (places_of plan) closed.domains.items) }
+    ensures users { IfOk result (λ closed. AreUsersListed plan closed.domains.items) }
     ensures asked { IfOk result (λ closed. AllAreRightlyAsked closed.domains.items) }
-    ensures kept { IfOk result (λ closed. AreUsersRecorded K.has_kept K.was_out histories.plan outputs.now.records.now closed.domains.items) }
+    ensures kept { IfOk result (λ closed. AreUsersRecorded K.has_kept K.was_out plan outputs.now.records.now closed.domains.items) }
 {
-    let opened = match Service::open_again(rt, alloc, histories, settings.workers) {
-        Ok(opened) => opened,
-        Err(Refusal::NoMemory) => return Err(LiveFailure::Memory),
-        Err(Refusal::NoSuch | Refusal::JournalFull) => return Err(LiveFailure::Histories),
+    let room = Room::of(settings.room);
+    let Ok(opened) = Service::open_within(rt, alloc, plan, settings.workers, room) else {
+        return Err(LiveFailure::Memory);
     };
     let Opened {
         service,
@@ -258,6 +279,7 @@ pub fn run_live<
         users,
         operator,
     } = opened;
+    bound_domains(rt, &service, settings.restart_steps, outputs.replays);
     let mut reader = LiveReader {
         alloc,
         operator: Operator::new(&service, operator, gauge),

@@ -42,6 +42,13 @@ pub(crate) fn has_record_room(taken: u64, room: u64, commands: u64) -> bool {
     commands == 0 || taken.saturating_add(commands.saturating_mul(RECORD_LINE_BYTES)) <= room
 }
 
+/// How many bytes a journal that takes `bytes` bytes by now may take, so that what it gains fits into the room of its records,
+/// whose newest takes `taken` bytes and has all that the journal has by now.
+pub(crate) fn most_journal(bytes: u64, taken: u64, room: u64) -> u64 {
+    let lines = (room - room / 4).saturating_sub(taken) / RECORD_LINE_BYTES;
+    bytes.saturating_add(lines.saturating_mul(ENTRY_BYTES))
+}
+
 /// Whether records take so much of their room that nodes and packets rest: a quarter is kept for the commands of users.
 pub(crate) fn is_used_up(taken: u64, room: u64) -> bool {
     taken >= room - room / 4

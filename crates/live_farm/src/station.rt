@@ -12,11 +12,12 @@ use crate::queued::{QueuedLine, QueuedRequest};
 use crate::record::{
     RecordOutputs, RecordSizes, RecordState, SharedRecord, keep_and_tell, trim_and_tell,
 };
-use crate::room::{commands_of, has_record_room, has_room, is_used_up};
+use crate::replay::Replay;
+use crate::room::{commands_of, has_record_room, has_room, is_used_up, most_journal};
 use crate::texts::{LiveAnswer, NotDone, error_answer, error_answer_in, note_answer};
 use domain_core::NoMemory;
 use live_lines::LiveRequest;
-use record_files::{Notices, names_of};
+use record_files::{Notices, ReplayMeter, ReplayOutputs, names_of};
 use std::alloc::Global;
 use std::mem;
 use std::sync::atomic::{AtomicBool, AtomicU64, Ordering};
@@ -25,10 +26,21 @@ use std::sync::{Mutex, Wait};
 /// How many bytes are kept for the answer to a line for which there is no memory.
 const SPARE_BYTES: usize = 1024;
 
+/// What bounds a domain beside its room.
+#[derive(Clone, Copy)]
+pub struct DomainBounds {
+    /// How many bytes its records may take.
+    pub record_room: u64,
+    /// How many events its nodes may record after a line of its users.
+    pub line_steps: u64,
+}
+
 /// A domain with what its thread needs.
 pub struct Station<'a> {
     /// The lines that wait.
     pub mailbox: Mailbox,
+    /// How far the record that was there is replayed.
+    pub meter: ReplayMeter,
     // Its thread holds the lock as long as it runs.
     group: Mutex<UserGroup<'a>>,
     answered: Vec<AtomicU64>,
@@ -36,10 +48,10 @@ pub struct Station<'a> {
     // How it is with its record: whether something isn't recorded, and whether the record can't be taken.
     unrecorded: AtomicBool,
     out: AtomicBool,
-    // How many bytes its records take, how many of them the newest, and how many they may take.
+    // How many bytes its records take, and how many of them the newest.
     record_bytes: AtomicU64,
     newest_bytes: AtomicU64,
-    record_room: u64,
+    bounds: DomainBounds,
     // Whether its users were sent the note that it rests.
     rest_is_told: AtomicBool,
 }
@@ -49,6 +61,7 @@ impl Drop for Station<'_> {
     fn drop(self) {
         let Station {
             mailbox: _,
+            meter: _,
             group: _,
             answered: _,
             out_of_memory: _,
@@ -56,22 +69,23 @@ impl Drop for Station<'_> {
             out: _,
             record_bytes: _,
             newest_bytes: _,
-            record_room: _,
+            bounds: _,
             rest_is_told: _,
         } = self;
     }
 }
 
 impl<'a> Station<'a> {
-    /// The station of a domain's users. The records of the domain may take `record_room` bytes.
+    /// The station of a domain's users.
     pub fn new(
         alloc: Global,
         group: UserGroup<'a>,
-        record_room: u64,
+        bounds: DomainBounds,
     ) -> Result<Station<'a>, NoMemory> {
         let answered = counts_of(alloc, group.users())?;
         Ok(Station {
             mailbox: Mailbox::new(alloc)?,
+            meter: ReplayMeter::new(),
             group: Mutex::new(group),
             answered,
             out_of_memory: AtomicBool::new(false),
@@ -79,7 +93,7 @@ impl<'a> Station<'a> {
             out: AtomicBool::new(false),
             record_bytes: AtomicU64::new(0),
             newest_bytes: AtomicU64::new(0),
-            record_room,
+            bounds,
             rest_is_told: AtomicBool::new(false),
         })
     }
@@ -91,7 +105,7 @@ impl<'a> Station<'a> {
 
     /// How many bytes its records may take.
     pub fn record_room(&self) -> u64 {
-        self.record_room
+        self.bounds.record_room
     }
 
     /// Notes how many bytes its records take.
@@ -104,7 +118,7 @@ impl<'a> Station<'a> {
     // if there is too little room.
     fn has_record_room(&self, commands: u64) -> bool {
         let newest = self.newest_bytes.load(Ordering::SeqCst);
-        has_record_room(newest, self.record_room, commands)
+        has_record_room(newest, self.bounds.record_room, commands)
     }
 
     /// How many lines of a user were answered.
@@ -142,6 +156,7 @@ impl<'a> Station<'a> {
     pub fn into_group(self) -> UserGroup<'a> {
         let Station {
             mailbox: _,
+            meter: _,
             group,
             answered: _,
             out_of_memory: _,
@@ -149,7 +164,7 @@ impl<'a> Station<'a> {
             out: _,
             record_bytes: _,
             newest_bytes: _,
-            record_room: _,
+            bounds: _,
             rest_is_told: _,
         } = self;
         group.into_inner()
@@ -372,7 +387,29 @@ fn note_records<R: Wait, K: SharedRecord, N: Notices>(
     if is_used_up(sizes.newest, room) {
         group.service.halt_for_records(group.domain);
     }
+    if sizes.newest > 0
+        && let Ok(status) = group.service.room_status(rt, group.domain)
+    {
+        let most = most_journal(status.bytes, sizes.newest, room);
+        group.service.bound_bytes(group.domain, most);
+    }
     Ok(())
+}
+
+// Records what a domain that rests did since its last line, so that it goes on if its records have room.
+fn write_what_waits<R: Wait, K: SharedRecord, N: Notices>(
+    rt: &R,
+    alloc: Global,
+    station: &Station<'_>,
+    group: &UserGroup<'_>,
+    outputs: &RecordOutputs<'_, K, N>,
+) -> Result<(), NoMemory> {
+    if station.record_state() == RecordState::Kept {
+        let asked = AskedCommands::of_group(group);
+        let state = keep_and_tell(rt, alloc, group.service, asked, outputs, false)?;
+        station.note(state);
+    }
+    note_records(rt, alloc, station, group, outputs)
 }
 
 // Tells the users of a domain, and the operator, once that it rests.
@@ -442,12 +479,15 @@ fn serve_next<R: Wait, K: SharedRecord, O: SharedOutlet, N: Notices>(
     let queued = match station.mailbox.take(rt) {
         Mail::Line(queued) => queued,
         Mail::News => {
+            let _ = write_what_waits(rt, alloc, station, group, outputs);
             let _ = tell_rest(rt, alloc, station, group, outlet, outputs.errors);
             return true;
         }
         Mail::End => return false,
     };
     if usize::from(queued.user) < group.users() && !outlet.has_failed(rt) {
+        let steps = station.bounds.line_steps;
+        group.service.bound_events_of_line(rt, group.domain, steps);
         if serve_queued(rt, alloc, station, group, &queued, outputs, outlet).is_err()
             && usize::from(queued.user) < group.users()
         {
@@ -459,13 +499,42 @@ fn serve_next<R: Wait, K: SharedRecord, O: SharedOutlet, N: Notices>(
     true
 }
 
-/// Answers lines, in their order, until the mailbox is closed and empty. Once a write has failed nothing more is asked. A line
-/// for which there is no memory is answered `memory`, and the domain rests from then on until it begins again.
-pub fn serve<R: Wait, K: SharedRecord, O: SharedOutlet, N: Notices>(
+// Replays what is to be replayed of the domain before its first line is answered.
+fn replay_first<R: Wait, K: SharedRecord, P: Replay<K>, N: Notices>(
+    rt: &R,
+    alloc: Global,
+    station: &Station<'_>,
+    group: &mut UserGroup<'_>,
+    replay: &P,
+    outputs: &RecordOutputs<'_, K, N>,
+) {
+    if station.meter.is_under_way() {
+        group.replay(
+            rt,
+            replay,
+            &ReplayOutputs {
+                record: outputs.record,
+                meter: &station.meter,
+                errors: outputs.errors,
+            },
+        );
+        station.note(outputs.record.state(rt));
+        station.meter.note_under_way(false);
+    }
+    let steps = station.bounds.line_steps;
+    group.service.bound_events_of_line(rt, group.domain, steps);
+    let _ = note_records(rt, alloc, station, group, outputs);
+}
+
+/// Replays what is to be replayed of a domain. Then it answers lines, in their order, until the mailbox is closed and empty. Once a
+/// write has failed nothing more is asked. A line for which there is no memory is answered `memory`, and the domain rests from then
+/// on until it begins again.
+pub fn serve<R: Wait, K: SharedRecord, P: Replay<K>, O: SharedOutlet, N: Notices>(
     rt: &R,
     alloc: Global,
     station: &Station<'_>,
     record: &K,
+    replay: &P,
     outlet: &O,
     errors: &N,
 ) {
@@ -475,6 +544,7 @@ pub fn serve<R: Wait, K: SharedRecord, O: SharedOutlet, N: Notices>(
     };
     let outputs = RecordOutputs { record, errors };
     let mut group = station.group.lock(rt);
+    replay_first(rt, alloc, station, &mut group, replay, &outputs);
     for _ in rt.forever() {
         if !serve_next(rt, alloc, station, &mut group, &outputs, outlet, &mut spare) {
             break;

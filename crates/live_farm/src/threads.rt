@@ -7,6 +7,7 @@ use crate::operator::Operator;
 use crate::outlet::SharedOutlet;
 use crate::outputs::LiveOutputs;
 use crate::record::SharedRecord;
+use crate::replay::Replay;
 use crate::station::{Station, serve};
 use record_files::Notices;
 use std::alloc::Global;
@@ -27,6 +28,7 @@ const PACE_MILLISECONDS: u64 = 100;
 fn run_stations<
     R: Threads + Wait + Sync,
     K: SharedRecord + Sync,
+    P: Replay<K> + Sync,
     I: BufRead,
     O: SharedOutlet + Sync,
     N: Notices + Sync,
@@ -34,23 +36,25 @@ fn run_stations<
     rt: &R,
     stations: &[Station<'_>],
     dispatcher: &Dispatcher<'_, '_, FarmUsers<'_>>,
-    outputs: &LiveOutputs<'_, K, O, N>,
+    outputs: &LiveOutputs<'_, K, P, O, N>,
     operator: &mut Operator<'_>,
     input: &mut I,
 ) -> Result<(), LiveStop> {
     let alloc = dispatcher.alloc;
-    let (records, outlet, errors) = (outputs.records, outputs.outlet, outputs.errors);
+    let (records, replays) = (outputs.records, outputs.replays);
+    let (outlet, errors) = (outputs.outlet, outputs.errors);
     thread::scope(thread::scope_env(), rt, |scope| {
         let service = dispatcher.farm_users.service;
         let interval = Duration::from_millis(PACE_MILLISECONDS);
         let mut started = scope
             .spawn(move || service.keep_pace(rt, PACED_EVENTS, interval))
             .is_ok();
-        for (station, record) in stations.iter().zip(records) {
+        for ((station, record), replay) in stations.iter().zip(records).zip(replays) {
             station.note(record.state(rt));
             station.note_sizes(record.sizes(rt));
+            station.meter.note_under_way(replay.is_left(rt));
             if scope
-                .spawn(move || serve(rt, alloc, station, record, outlet, errors))
+                .spawn(move || serve(rt, alloc, station, record, replay, outlet, errors))
                 .is_err()
             {
                 started = false;
@@ -63,7 +67,10 @@ fn run_stations<
             Err(LiveStop::Threads)
         };
         for station in stations {
-            station.mailbox.close(rt);
+            // A replay that no line waits for is of no use any more.
+            if !station.mailbox.close(rt) {
+                station.meter.end();
+            }
         }
         service.end_pacing();
         ended
@@ -75,6 +82,7 @@ fn run_stations<
 pub fn run_farm_users<
     R: Threads + Wait + Sync,
     K: SharedRecord + Sync,
+    P: Replay<K> + Sync,
     I: BufRead,
     O: SharedOutlet + Sync,
     N: Notices + Sync,
@@ -82,7 +90,7 @@ pub fn run_farm_users<
     rt: &R,
     alloc: Global,
     farm_users: &FarmUsers<'_>,
-    outputs: &LiveOutputs<'_, K, O, N>,
+    outputs: &LiveOutputs<'_, K, P, O, N>,
     operator: &mut Operator<'_>,
     input: &mut I,
 ) -> Result<(), LiveStop> {

@@ -31,10 +31,13 @@ abbrev pub plan_argument : Rule
 plan_argument = record (new_rule (codes "plan")) { action = Some Set; value_names = 1; required = true }
 
 -- the path of the plan; `--workers N`, 1 to 8, else 2; `--quantum N`, 1 to 4096, else 256; `--record DIR`, `--resume`,
--- `--sync`; `--room SIZE`, else 64M; `--record-room SIZE`, else 256M
+-- `--sync`; `--room SIZE`, else 64M; `--record-room SIZE`, else 256M; `--line-steps SIZE`, else 16G; `--restart-steps
+-- SIZE`, else 64G
 abbrev pub live_command : App
 live_command =
     with_rule
+    (with_rule
+    (with_rule
     (with_rule
     (with_rule
     (with_rule
@@ -47,7 +50,9 @@ live_command =
     (flag_option (codes "resume")))
     (flag_option (codes "sync")))
     (size_option (codes "room") (codes "64M")))
-    (size_option (codes "record-room") (codes "256M"))
+    (size_option (codes "record-room") (codes "256M")))
+    (size_option (codes "line-steps") (codes "16G")))
+    (size_option (codes "restart-steps") (codes "64G"))
 
 -- ---- what its words say
 
@@ -58,7 +63,7 @@ IsSaidNumber rows name least most n =
     → least ≤ digits_value 10 (without_leading_plus text) → digits_value 10 (without_leading_plus text) ≤ most
     → n ≡ digits_value 10 (without_leading_plus text)
 
--- how many bytes a letter after a number stands for, or no letter
+-- how many times as much a letter after a number says, or no letter
 abbrev pub IsUnit : Text → ℕ → Type 0
 IsUnit letter bytes =
     ((letter ≡ []) × (bytes ≡ 1)) ⊎ (((letter ≡ codes "K") × (bytes ≡ 2 ^ 10))
@@ -68,13 +73,13 @@ IsUnit letter bytes =
 abbrev pub HasUnit : Text → Text → ℕ → Type 0
 HasUnit word digits unit = (letter : Text) × (word ≡ digits ++ letter) × IsUnit letter unit
 
--- a word says this many bytes
+-- a word says this size
 abbrev pub IsSize : Text → ℕ → Type 0
 IsSize word bytes =
     (digits : Text) × (unit : ℕ) × HasUnit word digits unit × IsNumeral 10 (without_leading_plus digits)
     × (bytes ≡ digits_value 10 (without_leading_plus digits) * unit)
 
--- the text of an option says this many bytes
+-- the text of an option says this size
 abbrev pub IsSaidSize : List Row → Text → ℕ → Type 0
 IsSaidSize rows name bytes = IsSize (unwrap_or (first_of name rows) []) bytes
 
@@ -99,6 +104,8 @@ pub record AreSettingsIn (rows : List Row) (s : LiveSettings) : Type 0 where
   pub records : AreSaidRecords rows s.records
   pub room : IsSaidSize rows (codes "room") s.room
   pub record_room : IsSaidSize rows (codes "record-room") s.record_room
+  pub line_steps : IsSaidSize rows (codes "line-steps") s.line_steps
+  pub restart_steps : IsSaidSize rows (codes "restart-steps") s.restart_steps
 
 -- the settings are those that the words say, as `clap` reads them
 abbrev pub AreSettingsSaid : List Text → LiveSettings → Type 0

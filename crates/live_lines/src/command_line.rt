@@ -2,7 +2,7 @@
 ghost use Rattle.std.specs.Prelude.{◌≡◌, ◌≤◌, [], false, IfOk, IfSome, codes, map, pos, unwrap_or};
 ghost use Rattle.clap.specs.declared.builder.value_parser.ValueParser.TheVariants.{Signed};
 ghost use Rattle.clap.specs.Words.{app_of, first_value, found_of, rows_of, rule_of};
-ghost use Rattle.live_lines.specs.LiveRanges.{IsInRange, IsRoom};
+ghost use Rattle.live_lines.specs.LiveRanges.{IsBound, IsInRange};
 ghost use Rattle.live_lines.specs.LiveSettings.{AreSettingsIn, AreSettingsSaid, AreSaidRecords, HasUnit, IsSaidSize, IsSize};
 ghost use Rattle.live_lines.specs.LiveSettings.{flag_option, live_command, counted_option, plan_argument, size_option, value_option};
 
@@ -15,10 +15,10 @@ const DEFAULT_WORKERS: u8 = 2;
 
 const DEFAULT_QUANTUM: u16 = 256;
 
-/// The least and the greatest room, in bytes: 1 MiB and 64 GiB.
-const LEAST_ROOM: u64 = 1 << 20;
+/// The least and the greatest bound, in bytes of a room or in Steps.
+const LEAST_BOUND: u64 = 1 << 20;
 
-const GREATEST_ROOM: u64 = 1 << 36;
+const GREATEST_BOUND: u64 = 1 << 36;
 
 /// What comes after the help.
 const AFTER_HELP: &str = "\
@@ -52,6 +52,10 @@ pub struct LiveSettings {
     pub room: u64,
     /// How many bytes the records of a domain may take on disk, 1 MiB to 64 GiB.
     pub record_room: u64,
+    /// How many events the nodes of a domain may record after a line of its users, 2^20 to 2^36.
+    pub line_steps: u64,
+    /// How many events a domain may record before its nodes rest until a restart, 2^20 to 2^36.
+    pub restart_steps: u64,
 }
 
 // Dropped by hand, since a derived `Drop` makes callers prove the drop of each field.
@@ -64,6 +68,8 @@ impl Drop for LiveSettings {
             records: _,
             room: _,
             record_room: _,
+            line_steps: _,
+            restart_steps: _,
         } = self;
     }
 }
@@ -102,13 +108,15 @@ fn settings_in(alloc: Global, matches: &ArgMatches) -> Result<LiveSettings, clap
         workers: workers_of(matches.get_one::<u8>("workers")),
         quantum: quantum_of(matches.get_one::<u16>("quantum")),
         records: records_in(alloc, matches)?,
-        room: room_in(alloc, matches, "room")?,
-        record_room: room_in(alloc, matches, "record-room")?,
+        room: bound_in(alloc, matches, "room")?,
+        record_room: bound_in(alloc, matches, "record-room")?,
+        line_steps: bound_in(alloc, matches, "line-steps")?,
+        restart_steps: bound_in(alloc, matches, "restart-steps")?,
     })
 }
 
-// What a word has before K, M or G, and how many bytes the letter stands for: 1,024, or 1,024 or 1,048,576 times as many. If
-// there is no such letter it is the whole word, and one byte.
+// What a word has before K, M or G, and how many times as much the letter says: 1,024, or 1,024 or 1,048,576 times that. If
+// there is no such letter it is the whole word, and once.
 fn unit_in(word: &str) -> (&str, u64)
     ensures { HasUnit word.now result.0.now result.1 }
 {
@@ -124,7 +132,7 @@ fn unit_in(word: &str) -> (&str, u64)
     (word, 1)
 }
 
-// How many bytes a word says: a number, with its unit.
+// What size a word says: a number, with its unit.
 fn parse_size(word: &str) -> Option<u64>
     ensures { IfSome result (IsSize word.now) }
 {
@@ -136,33 +144,33 @@ fn parse_size(word: &str) -> Option<u64>
     count.checked_mul(unit)
 }
 
-// The room that a word says, if it is one that a domain may have.
-fn parse_room(word: &str) -> Option<u64>
-    ensures room { IfSome result IsRoom }
+// The bound that a word says, if it is one that a domain may have.
+fn parse_bound(word: &str) -> Option<u64>
+    ensures bound { IfSome result IsBound }
     ensures size { IfSome result (IsSize word.now) }
 {
     match parse_size(word) {
-        Some(bytes) if (LEAST_ROOM..=GREATEST_ROOM).contains(&bytes) => Some(bytes),
+        Some(bytes) if (LEAST_BOUND..=GREATEST_BOUND).contains(&bytes) => Some(bytes),
         _ => None,
     }
 }
 
-// The room that an option says. It has a default.
-fn room_in(alloc: Global, matches: &ArgMatches, name: &'static str) -> Result<u64, clap::Error>
-    ensures room { IfOk result IsRoom }
+// The bound that an option says. It has a default.
+fn bound_in(alloc: Global, matches: &ArgMatches, name: &'static str) -> Result<u64, clap::Error>
+    ensures bound { IfOk result IsBound }
     ensures said { IfOk result (IsSaidSize (rows_of (found_of matches.now)) name.now) }
 {
     let word = text_in(matches, name);
-    match parse_room(word) {
+    match parse_bound(word) {
         Some(bytes) => Ok(bytes),
-        None => Err(wrong_room(alloc, name, word)?),
+        None => Err(wrong_bound(alloc, name, word)?),
     }
 }
 
-// That a word is no room.
-fn wrong_room(alloc: Global, name: &str, word: &str) -> Result<clap::Error, AllocError> {
+// That a word is no such bound.
+fn wrong_bound(alloc: Global, name: &str, word: &str) -> Result<clap::Error, AllocError> {
     let message = format!(in alloc;
-        "invalid value '{word}' for '--{name} <SIZE>': it is no number of bytes from 1M to 64G"
+        "invalid value '{word}' for '--{name} <SIZE>': it is no number from 1M to 64G"
     )?;
     live_command(alloc)?.error(ErrorKind::ValueValidation, message.as_str())
 }
@@ -277,6 +285,32 @@ fn record_room_option(alloc: Global) -> Arg<'static>
     .default_value("256M")
 }
 
+fn line_steps_option(alloc: Global) -> Arg<'static>
+    ensures rule { rule_of result ≡ size_option (codes "line-steps") (codes "16G") }
+    ensures local { result.global ≡ false }
+{
+    value_option(
+        alloc,
+        "line-steps",
+        "SIZE",
+        "How many Steps the nodes of a domain may do after a line of its users, 1M to 64G",
+    )
+    .default_value("16G")
+}
+
+fn restart_steps_option(alloc: Global) -> Arg<'static>
+    ensures rule { rule_of result ≡ size_option (codes "restart-steps") (codes "64G") }
+    ensures local { result.global ≡ false }
+{
+    value_option(
+        alloc,
+        "restart-steps",
+        "SIZE",
+        "How many Steps the nodes of a domain may do until it restarts, 1M to 64G",
+    )
+    .default_value("64G")
+}
+
 // The program's command line. The help tells of the arguments in this order.
 fn live_command<'a>(alloc: Global) -> Result<Command<'a>, AllocError>
     ensures { IfOk result (λ command. app_of command ≡ live_command) }
@@ -297,12 +331,14 @@ fn live_command<'a>(alloc: Global) -> Result<Command<'a>, AllocError>
     let command = command.arg(resume)?;
     let command = command.arg(sync)?;
     let command = command.arg(room_option(alloc))?;
-    command.arg(record_room_option(alloc))
+    let command = command.arg(record_room_option(alloc))?;
+    let command = command.arg(line_steps_option(alloc))?;
+    command.arg(restart_steps_option(alloc))
 }
 
 /// Reads the words of the command line. The first is the program's name. The others are the plan's path; `--workers N`, 1 to 8,
-/// default 2; `--quantum N`, 1 to 4,096, default 256; `--record DIR`, and with it `--resume` and `--sync`; `--room SIZE` and
-/// `--record-room SIZE`, 1M to 64G, default 64M and 256M. The error is `clap`'s: `--help` is one, and that memory ran out another.
+/// default 2; `--quantum N`, 1 to 4,096, default 256; `--record DIR`, and with it `--resume` and `--sync`; `--room SIZE`,
+/// `--record-room SIZE`, `--line-steps SIZE` and `--restart-steps SIZE`, 1M to 64G, default 64M, 256M, 16G and 64G. The error is `clap`'s: `--help` is one, and that memory ran out another.
 pub fn live_settings<S: AsStr>(alloc: Global, words: &[S]) -> Result<LiveSettings, clap::Error>
     ensures in_range { IfOk result IsInRange }
     ensures said { IfOk result (AreSettingsSaid (map S.text words.now)) }

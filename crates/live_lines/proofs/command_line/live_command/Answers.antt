@@ -25,7 +25,13 @@ returns c =
     c.in_ok-command-6.ensures.shape c.in_ok-sync.ensures.local ∙ ap₂ with_rule resume c.in_ok-sync.ensures.rule in
     let room =
     c.in_ok-command-7.ensures.shape c.room_option.ensures.local ∙ ap₂ with_rule sync c.room_option.ensures.rule in
-    IfOk-weaker c.arg-8.result _ _
+    let record_room =
+    c.in_ok-command-8.ensures.shape c.record_room_option.ensures.local
+    ∙ ap₂ with_rule room c.record_room_option.ensures.rule in
+    let line_steps =
+    c.in_ok-command-9.ensures.shape c.line_steps_option.ensures.local
+    ∙ ap₂ with_rule record_room c.line_steps_option.ensures.rule in
+    IfOk-weaker c.arg-10.result _ _
     (λ command added.
-    added.shape c.record_room_option.ensures.local ∙ ap₂ with_rule room c.record_room_option.ensures.rule)
-    c.arg-8.ensures
+    added.shape c.restart_steps_option.ensures.local ∙ ap₂ with_rule line_steps c.restart_steps_option.ensures.rule)
+    c.arg-10.ensures

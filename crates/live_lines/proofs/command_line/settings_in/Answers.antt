@@ -29,6 +29,8 @@ returns-clause-said c =
           (c.get_one-2.ensures.value text (one_text-rows found (codes "quantum") ∙ there)) (λ u x h. h.0)
           c.quantum_of.ensures.given numeral low high;
       records = c.in_ok-records_in.ensures;
-      room = c.in_ok-room_in.ensures.said;
-      record_room = c.in_ok-room_in-2.ensures.said;
+      room = c.in_ok-bound_in.ensures.said;
+      record_room = c.in_ok-bound_in-2.ensures.said;
+      line_steps = c.in_ok-bound_in-3.ensures.said;
+      restart_steps = c.in_ok-bound_in-4.ensures.said;
     }

@@ -3,7 +3,7 @@ use Rattle.std.specs.Prelude.{unwrap_or}
 use Rattle.clap.specs.Words.{found_of}
 use Rattle.clap.proofs.WalkLemmas.{first_value-rows}
 use Rattle.live_lines.specs.LiveSettings.{IsSize}
-use Rattle.live_lines.proofs.command_line.room_in.Goals as goal
+use Rattle.live_lines.proofs.command_line.bound_in.Goals as goal
 
 pub returns-in-Some-clause-said : goal.returns-in-Some-clause-said
 returns-in-Some-clause-said c =
