@@ -19,7 +19,7 @@ from .places import parts_of, text_of
 from .records import PIECE, records_of
 from .replacement import Replacement, discard, go_back, is_left, mend
 from .sheets import count
-from .status import AGAIN, ask_operator
+from .status import REPLAYING, ask_operator
 from .supervising import Awaited, AwaitedChange, supervisor_of
 from .upkeep import INTERRUPTED, Start, Stop, all_done, begin_surely, must_all, say
 
@@ -122,7 +122,7 @@ def number_of(path: str, name: str) -> int:
 
 
 def outs(farm: str) -> set[str]:
-    """The users whose records couldn't be taken. A farm that does its records again is refused: it would begin with that anew."""
+    """The users whose records couldn't be taken. A farm that replays a record is refused: it would begin with that anew."""
     try:
         answers = ask_operator(farm, "!users", ANSWER_SECONDS)
     except OSError as error:
@@ -130,9 +130,10 @@ def outs(farm: str) -> set[str]:
             f"{os.path.basename(farm)} is up, but its operator isn't answered ({error.strerror or error}): try again "
             "when class status shows it"
         ) from None
-    if any(it.split(" ")[2:3] == [AGAIN] for it in answers):
+    if replayed := [words[1] for it in answers if REPLAYING in (words := it.split(" "))[5:]]:
         raise Refused(
-            f"{os.path.basename(farm)} does its records again: try again when class status shows that it is up"
+            f"{os.path.basename(farm)} replays what was done by {', '.join(replayed)}: try again when class status shows "
+            f"nobody as {REPLAYING}"
         )
     return {words[1] for it in answers if "out" in (words := it.split(" "))[5:]}
 

@@ -1,63 +1,57 @@
-"""How far a farm is that does its records again, as far as that is known: for how long, of how many bytes, and how long it took
-before."""
+"""How far the replay of a domain's record is, and how long it takes yet."""
 
 from __future__ import annotations
 
 import contextlib
-import os
 import re
 import time
 
-from .folder import OWN_FILE, contents, put_whole
-
-# Where a farm keeps how many seconds its last start took, and how many bytes its records had then.
-PACE = "pace"
-KEPT = re.compile(rb"(\d{1,9}) (\d{1,18})\n")
-# How often it is said.
-SAY_SECONDS = 30
-KIB = 1 << 10
-# How what is said of it begins.
-AGAIN_SINCE = "what was done is done again since"
+# What `live` says of a record that it replays: whose record it is, and how many MiB of how many are read, or how many Steps done.
+REPLAYED = re.compile(r"(.*/)?([^/]+)\.replay: (\d+) (?:of (\d+) MiB|Steps) are replayed")
+# What a record says of Steps that were done one after another.
+MANY_STEPS = re.compile(rb"(?m)^(\d{1,18}) times ")
+# Users are told of it no more often than this, in seconds.
+SAY_SECONDS = 5
+# So much of a record is read at a time, in bytes.
+PIECE = 1 << 20
 
 
-def size_of(records: str) -> int:
-    """How many bytes the records in a folder have together."""
-    with contextlib.suppress(OSError), os.scandir(records) as entries:
-        return sum(it.stat().st_size for it in entries if it.name.endswith(".replay"))
-    return 0
-
-
-def told(seconds: int, size: int, before: tuple[int, int] | None) -> str:
-    """How a person is told of it."""
-    last = f", and the last start took {before[0]} s with {before[1] / KIB:.1f} KiB" if before else ""
-    return f"{AGAIN_SINCE} {seconds} s, from records of {size / KIB:.1f} KiB{last}"
+def steps_in(path: str) -> int:
+    """How many Steps the lines of a record say that have many of them."""
+    steps, held = 0, b""
+    with contextlib.suppress(OSError), open(path, "rb") as record:
+        while piece := record.read(PIECE):
+            whole, cut, held = (held + piece).rpartition(b"\n")
+            steps += sum(int(it) for it in MANY_STEPS.findall(whole + cut))
+    return steps
 
 
 class Replay:
-    """A start of a farm, which does its records again."""
+    """The replay of one record, from the first that was said of it."""
 
-    def __init__(self, folder: str) -> None:
-        self.path, self.begun = os.path.join(folder, PACE), time.monotonic()
-        self.size, self.before = size_of(os.path.join(folder, "records")), self.kept()
+    def __init__(self, path: str) -> None:
+        self.path, self.begun, self.told = path, time.monotonic(), 0.0
+        self.first: int | None = None
+        self.steps: int | None = None
 
-    def kept(self) -> tuple[int, int] | None:
-        """The seconds and the bytes of the start before; none if they aren't known."""
-        with contextlib.suppress(OSError):
-            if found := KEPT.fullmatch(contents(self.path)):
-                return int(found[1]), int(found[2])
-        return None
+    def all_of(self, mebibytes: str | None) -> int:
+        """How much there is to do, in MiB or in Steps."""
+        if mebibytes:
+            return int(mebibytes)
+        if self.steps is None:
+            self.steps = steps_in(self.path)
+        return self.steps
 
-    def seconds(self) -> int:
-        return round(time.monotonic() - self.begun)
-
-    def words(self) -> str:
-        """The same as the words behind a user's name in an answer to `!users`."""
-        return " ".join(f"{it}" for it in ("again", self.seconds(), self.size, *(self.before or ())))
-
-    def told(self) -> str:
-        return told(self.seconds(), self.size, self.before)
-
-    def keep(self) -> None:
-        """Keeps how long it took, when it is over."""
-        with contextlib.suppress(OSError):
-            put_whole(self.path, f"{self.seconds()} {self.size}\n".encode(), OWN_FILE)
+    def words(self, done: int, mebibytes: str | None) -> str | None:
+        """How far it is, as a user is told; none if he was told a moment ago."""
+        now = time.monotonic()
+        if self.told and now < self.told + SAY_SECONDS:
+            return None
+        self.told, every = now, self.all_of(mebibytes)
+        if self.first is None:
+            self.first = done
+        if done >= every:
+            return "nearly all is done"
+        gained = done - self.first
+        left = f", some {round((every - done) * (now - self.begun) / gained)} s left" if gained else ""
+        return f"{100 * done // every} %{left}"

@@ -33,8 +33,6 @@ KEPT, MOST_TOLD = 20, 4096
 # How long is waited before each next start if the program can't be started at all: until a descriptor, memory or the
 # program itself is there again.
 PAUSES = (1, 2, 4, 8, 16)
-# What `live` says of a record that it does again: whose record it is, and how far it is.
-DONE_AGAIN = re.compile(r"(?:.*/)?([^/]+)\.replay: (\d+ of \d+ (?:MiB|Steps)) are done again")
 # What it says of a line whose user it doesn't know, since it had no memory to read the name.
 NOBODYS = re.compile(r"error (\d+) user")
 
@@ -75,7 +73,7 @@ class Live:
     @classmethod
     async def start(cls, words: list[str], tell: Tell) -> Live:
         """Starts it in a group of its own, so that a signal of the terminal reaches `serve` alone. It ends with `serve`, also
-        while it does records again and reads no input. As Python does, it passes over the signals by which a write to a
+        while it replays records and reads no input. As Python does, it passes over the signals by which a write to a
         closed pipe or past a limit of files would end it: the write fails then, and that is told."""
         pipe, serve = asyncio.subprocess.PIPE, os.getpid()
         return cls(

@@ -36,7 +36,7 @@ from .folder import (
     refuse_unproved,
     socket_path,
 )
-from .replays import SAY_SECONDS, Replay
+from .replays import REPLAYED, Replay
 from .ports import Wiring, found_in, ports_told, users_in, wiring_in
 from .reports import Reports, open_streams
 from .rooms import RECORD_ROOM, ROOM, Needed, add_rooms
@@ -80,7 +80,7 @@ class Server:
         self.is_up, self.is_stopping, self.is_proved = False, False, True
         # set while lines are handed on, or refused since the farm is stopped
         self.goes = asyncio.Event()
-        self.starts, self.replay = running.Starts(), Replay(self.folder.path)
+        self.starts, self.replays = running.Starts(), dict[str, Replay]()
         self.speakers: dict[str, Speaker] = {}
         self.operator: Operator
         self.accepting: list[asyncio.Task[None]] = []
@@ -181,9 +181,6 @@ class Server:
         if (news := speaker.news(text)) is not None:
             self.tell_all(f"the operator says: {escaped(news.decode(errors='surrogateescape'))}")
             return
-        if speaker.name == OPERATOR and not self.goes.is_set() and (answers := self.answers_of_replay(text)):
-            client.tell(b"".join(tag + it for it in answers))
-            return
         asked = await speaker.enter(text, client, tag)
         await self.goes.wait()
         if client.is_gone() or self.is_stopping:
@@ -194,22 +191,6 @@ class Server:
             self.say_ports(speaker, asked)
             return
         speaker.sent(self.current_live().say(speaker.line(text)), asked)
-
-    def answers_of_replay(self, text: bytes) -> list[bytes]:
-        """What the operator is answered while records are done again: who waits for how long. Other lines wait too."""
-        words = self.operator.words(text)
-        if words == [b"!memory"]:
-            return [b"!memory again\n"]
-        told = f" {self.replay.words()}\n".encode()
-        return (
-            [b"!users " + it.encode() + told for it in self.speakers if it != OPERATOR] if words == [b"!users"] else []
-        )
-
-    async def say_replay(self) -> None:
-        """Says now and then how long records are done again. Users hear nothing of it, for it is of the records of all."""
-        while True:
-            await asyncio.sleep(SAY_SECONDS)
-            self.tell_operator(f"serve: {self.replay.told()}")
 
     def tell_operator(self, text: str) -> None:
         self.reports.say(text)
@@ -252,9 +233,9 @@ class Server:
             speaker.tell(f"note: {text}\n".encode())
 
     def hear_error(self, text: str) -> None:
-        """Hands on a line of the standard error of `live`: to the operator, and to whose domain is done again."""
-        if found := running.DONE_AGAIN.fullmatch(text):
-            self.tell_progress(*found.groups())
+        """Hands on a line of the standard error of `live`: to the operator, and to whose record is replayed."""
+        if found := REPLAYED.fullmatch(text):
+            self.tell_progress(text[: found.end(2)], found[2], int(found[3]), found[4])
         if found := running.NOBODYS.fullmatch(text):
             self.give_up(int(found[1]))
         self.tell_operator(text)
@@ -265,13 +246,16 @@ class Server:
             if number in speaker.asked:
                 speaker.give_up([number])
 
-    def tell_progress(self, record: str, far: str) -> None:
-        """Tells the users of a domain how far its record is done again."""
+    def tell_progress(self, path: str, record: str, done: int, mebibytes: str | None) -> None:
+        """Tells the users of a domain how far its record is replayed."""
+        replay = self.replays.setdefault(record, Replay(f"{path}.replay"))
+        if (far := replay.words(done, mebibytes)) is None:
+            return
         for users in users_in(self.plan):
             if re.fullmatch(rf"{re.escape(users[0])}(\.\d+)?", record):
                 for name in users:
                     if name in self.speakers:
-                        self.speakers[name].tell(f"note: what your machine did is done again: {far}\n".encode())
+                        self.speakers[name].tell(f"note: what your machine did is replayed: {far}\n".encode())
 
     def say_rooms(self) -> None:
         """Says what the rooms of all domains may take, beside what is there. Of a plan that can't be read nothing is said."""
@@ -331,13 +315,8 @@ class Server:
 
     async def begin(self) -> None:
         """Starts `live`, opens the sockets if they aren't open yet, and says to whom lines go."""
-        self.replay = Replay(self.folder.path)
-        saying = asyncio.ensure_future(self.say_replay())
-        try:
-            self.live, users = await running.begin(self.call(), self.folder.records, self.begun, self.hear_error)
-        finally:
-            saying.cancel()
-        self.replay.keep()
+        self.replays.clear()
+        self.live, users = await running.begin(self.call(), self.folder.records, self.begun, self.hear_error)
         if not self.speakers:
             self.open(users)
         elif users != [*self.speakers][:-1]:

@@ -24,9 +24,8 @@ HEAD = ("user", "farm", "lines", "events", "used", "room", "records", "now", "la
 WORDS, ROOMS = 4, 4
 # What a row has in their place if no `serve` has the farm, and if one has it and doesn't answer.
 OFF, SILENT = "off", "no answer"
-# What stands behind a user's name while records are done again: for how many seconds, of how many bytes, and if they are known
-# the same two numbers of the last start.
-AGAIN = "again"
+# What `!users` says of a user whose record is replayed, behind `busy`.
+REPLAYING = "replaying"
 MIB = 1 << 20
 
 
@@ -75,8 +74,6 @@ def row_of(folder: str, name: str, said: list[str] | str) -> tuple[str, ...]:
 
 def told_of(words: list[str]) -> list[str] | str:
     """The words after a user's name in an answer to `!users`, if they have the form that they should have."""
-    if words[:1] == [AGAIN]:
-        return AGAIN
     numbers = words[: WORDS - 1]
     fits = len(words) >= WORDS and all(is_number(it) for it in numbers) and int(numbers[-1]) > 0
     return words if fits else SILENT
@@ -90,10 +87,6 @@ def remarks_of(folder: str, answers: list[str]) -> list[str]:
     if len(words) >= 3 and all(is_number(it) for it in words[1:3]):
         has, may = (f"{int(it) / MIB:.0f} MiB" for it in words[1:3])
         remarks.append(f"{farm} has {has} of memory, and its rooms may take {may}")
-    again: list[str] = next((it.split(" ")[3:] for it in answers if re.match(rf"!users \S+ {AGAIN} ", it)), [])
-    if len(again) in (2, 4) and all(is_number(it) for it in again):
-        seconds, size, *before = (int(it) for it in again)
-        remarks.append(f"{farm} isn't up yet: {told(seconds, size, (before[0], before[1]) if before else None)}")
     if NOT_PROVED in answers:
         remarks.append(f"{farm} isn't proved yet: ./prove proves it, and it is proved from its next start on")
     return remarks

@@ -16,7 +16,6 @@ from typing import TypeVar
 from .escapes import escaped
 from .folder import LOG, OWN_FILE, Refused, is_locked, own_plan, program
 from .holders import end_serve, live_at, serve_of, work_of
-from .replays import AGAIN_SINCE
 from .sheets import count
 from .status import ask_operator, operators_stream
 
@@ -42,7 +41,6 @@ TAKEN = "is served already"
 TIME = re.compile(r"^\d{4}-\d\d-\d\d \d\d:\d\d:\d\d ")
 # What it says of connections, such as those by which it is asked; and with that what it says as long as nothing is new.
 OF_CONNECTIONS = re.compile(r"the operator's socket$")
-NO_NEWS = re.compile(rf"{OF_CONNECTIONS.pattern}|: {AGAIN_SINCE} ")
 # How many bytes of the end of its log are looked at.
 LAST_BYTES = 4096
 # The status of a program that Ctrl-C has ended.
@@ -174,7 +172,7 @@ class Start(Work):
         """Whether it isn't waited any longer, since nothing new was seen, and nothing is done again."""
         number = serve_of(self.folder)
         said = self.log_from(0) if os.path.exists(self.log) else ""
-        news = self.whose(), last_of(said, NO_NEWS), work_of(number) // TICKS if number else 0
+        news = self.whose(), last_of(said, OF_CONNECTIONS), work_of(number) // TICKS if number else 0
         if news != self.news:
             self.news, self.last = news, time.monotonic()
         return time.monotonic() > self.last + QUIET_SECONDS

@@ -1,8 +1,8 @@
 //! The domains of a plan before a service has them.
 ghost use Rattle.std.specs.Prelude.{◌≡◌, [], length, replicate, All, IfOk, vec_len};
 ghost use Rattle.switch_table.specs.Domains.{domains_of};
+ghost use Rattle.farm_service.specs.Rooms.{reserved_entries};
 ghost use Rattle.switch_table.specs.Seats.{table_of, surveyed_table, surveyed_domains, seen_words};
-ghost use Rattle.farm_service.specs.Openings.{AreDomainsIn};
 
 use crate::NoMemory;
 use crate::opening::open_domains;
@@ -22,7 +22,6 @@ pub(crate) struct SeatedDomains {
     pub(crate) operator: OperatorSeat,
     /// How much memory each domain may take.
     pub(crate) room: Room,
-    ghost theirs: { AreDomainsIn plan domains.items },
     ghost count: { vec_len domains ≡ length plan },
     ghost its_table: { surveyed_table operator ≡ table_of table },
     ghost its_domains: { surveyed_domains operator ≡ domains_of plan },
@@ -39,6 +38,7 @@ impl SeatedDomains {
     ) -> Result<SeatedDomains, NoMemory>
         ensures plan { IfOk result (λ opened. opened.plan ≡ plan) }
         ensures journals { IfOk result (λ opened. All (λ d. d.journal ≡ []) opened.domains.items) }
+        ensures reserved { IfOk result (λ opened. All (λ d. d.reserved ≡ reserved_entries room) opened.domains.items) }
         ensures room { IfOk result (λ opened. opened.room ≡ room) }
     {
         let (table, seats, operator) = SwitchTable::open(alloc, &plan)?;

@@ -8,11 +8,10 @@ ghost use Rattle.farm_service.specs.Closed.{IsListedIn};
 ghost use Rattle.farm_service.specs.Passes.{Gains, NotesRefusal};
 ghost use Rattle.farm_service.specs.Restarts.{begun_anew};
 
-use crate::NoMemory;
 use crate::pass::UserPass;
 use crate::service::Service;
 use domain_core::{AnsweredCommand, By, Event, Journal, Refusal, Reply};
-use std::alloc::Global;
+use std::alloc::{AllocError, Global};
 use std::marker::Model;
 use std::sync::Wait;
 
@@ -94,7 +93,7 @@ impl Session<'_> {
     }
 
     // Makes the user's list what a journal has of the user.
-    pub(crate) fn list_again(&mut self, journal: &Journal) -> Result<(), NoMemory>
+    pub(crate) fn list_again(&mut self, journal: &Journal) -> Result<(), AllocError>
         ensures { IfOk result (λ _. IsListedIn journal.now.entries self.new.pass) }
     {
         self.pass.list_again(journal)

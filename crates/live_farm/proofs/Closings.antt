@@ -3,21 +3,18 @@
 use Rattle.std.proofs.Common.{◌≡◌, ℕ, List, [], ◌∷◌, map, Ok, Err, refl, ap, subst}
 use Rattle.std.specs.Prelude.{IfOk, Result}
 use Rattle.plan_rules.specs.Data.{DomainData}
-use Rattle.domain_core.specs.Domain.{DomainValue}
 use Rattle.farm_service.specs.declared.closed.Closed.{Closed}
 use Rattle.farm_service.specs.Closed.{AreListed, AllMetFullTruly}
-use Rattle.farm_service.specs.Histories.{with_history}
 use Rattle.farm_service.specs.Passes.{UserPassValue, fresh_passes, with_reserved}
 use Rattle.plan_rules.specs.declared.users.UserNumber.{UserNumber}
 use Rattle.live_farm.specs.Names.{user_number_of}
 use Rattle.live_farm.specs.Closings.{RecordSays, HaveListed, AreUsersListed, AreUsersRecorded}
 
--- whatever they list and reserve, passes are of the same users
-pub same_users : (domains : List DomainValue) (count : ℕ) (passes : List UserPassValue)
-    → map user_number_of (map (with_history domains) (map (with_reserved count) passes)) ≡ map user_number_of passes
-same_users domains count [] = refl
-same_users domains count (p ∷ passes) =
-    ap (λ (ns : List UserNumber). user_number_of p ∷ ns) (same_users domains count passes)
+-- whatever they reserve, passes are of the same users
+pub same_users : (count : ℕ) (passes : List UserPassValue)
+    → map user_number_of (map (with_reserved count) passes) ≡ map user_number_of passes
+same_users count [] = refl
+same_users count (p ∷ passes) = ap (λ (ns : List UserNumber). user_number_of p ∷ ns) (same_users count passes)
 
 -- if the passes are of the plan's users, and closing vouches for each, it vouches for all users of the plan
 pub all_listed : {E : Type 0} (plan : List DomainData) (passes : List UserPassValue) (outcome : Result Closed E)

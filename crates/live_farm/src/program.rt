@@ -270,8 +270,9 @@ pub fn run_live<
     ensures kept { IfOk result (λ closed. AreUsersRecorded K.has_kept K.was_out plan outputs.now.records.now closed.domains.items) }
 {
     let room = Room::of(settings.room);
-    let Ok(opened) = Service::open_within(rt, alloc, plan, settings.workers, room) else {
-        return Err(LiveFailure::Memory);
+    let opened = match Service::open_within(rt, alloc, plan, settings.workers, room) {
+        Ok(opened) => opened,
+        Err(_) => return Err(LiveFailure::Memory),
     };
     let Opened {
         service,

@@ -116,7 +116,16 @@ impl<'a, 'b, F: Files<File = File>, N: Notices> FileHistory<'a, 'b, F, N> {
 
     /// The record for what comes, or why the one that was found isn't taken.
     pub(crate) fn into_taken(self) -> Result<DomainRecord<RecordFile<'a, F>>, RecordFault> {
-        match self.taken {
+        let FileHistory {
+            alloc: _,
+            errors: _,
+            meter: _,
+            found: _,
+            file: _,
+            place: _,
+            taken,
+        } = self;
+        match taken {
             Some(taken) => taken,
             None => Err(RecordFault::Ended),
         }

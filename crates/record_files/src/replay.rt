@@ -34,6 +34,14 @@ impl<F: Files<File = File>> Drop for RecordStart<'_, F> {
     }
 }
 
+impl<'a, F: Files<File = File>> RecordStart<'a, F> {
+    // The record, its place and its file.
+    fn into_parts(self) -> (FoundRecord, RecordPlace<'a, F>, Result<File, RecordFault>) {
+        let RecordStart { found, place, file } = self;
+        (found, place, file)
+    }
+}
+
 /// What a replay tells, and the record that it opens.
 #[derive(Drop)]
 pub struct ReplayOutputs<'a, K, N> {
@@ -94,9 +102,10 @@ impl<'a, F: Files<File = File>> FileReplay<'a, F> {
         ensures { AreInOrder domain sessions.old → AreInOrder domain sessions.new }
     {
         let start = self.start.lock(rt).take();
-        let Some(RecordStart { found, place, file }) = start else {
+        let Some(start) = start else {
             return;
         };
+        let (found, place, file) = start.into_parts();
         let ReplayOutputs {
             record,
             meter,

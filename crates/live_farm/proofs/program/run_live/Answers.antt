@@ -16,16 +16,16 @@ returns-clause-runs g c =
 
 pub returns-clause-users : goal.returns-clause-users
 returns-clause-users g c =
-    let plan = c.args.histories.plan in
+    let plan = c.args.plan in
     let theirs =
-    c.in_ok-users.ensures.users ∙ ap (map user_number_of) c.in-Ok.ensures.users ∙ same_users _ _ (fresh_passes plan) in
+    c.in_ok-users.ensures.users ∙ ap (map user_number_of) c.in-Ok.ensures.users ∙ same_users _ (fresh_passes plan) in
     all_listed_of plan _ _ c.close.result c.in-Ok.ensures.plan theirs c.close.ensures.users c.close.ensures.full
 
 pub returns-clause-kept : goal.returns-clause-kept
 returns-clause-kept g c =
-    let plan = c.args.histories.plan in
+    let plan = c.args.plan in
     let records = c.args.outputs.now.records.now in
     let theirs =
-    c.in_ok-users.ensures.users ∙ ap (map user_number_of) c.in-Ok.ensures.users ∙ same_users _ _ (fresh_passes plan) in
+    c.in_ok-users.ensures.users ∙ ap (map user_number_of) c.in-Ok.ensures.users ∙ same_users _ (fresh_passes plan) in
     all_kept_of g.K.SharedRecord.has_kept g.K.SharedRecord.was_out plan _ records _ c.close.result
     c.in-Ok.ensures.plan theirs c.close.ensures.users c.in_ok-users.ensures.kept
