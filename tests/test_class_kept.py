@@ -44,9 +44,9 @@ UNWHOLE = """#!/bin/bash
 "{live}" "$@"
 exit 6
 """
-# A `live` that says of a record that it is done again, and ends by a fault before it answers.
+# A `live` that says of a record that it is replayed, and ends by a fault before it answers.
 SAYING = """#!/bin/bash
-echo "x/bob.replay: 16 of 34 MiB are done again" >&2
+echo "x/bob.replay: 16 of 34 MiB are replayed" >&2
 until [ -e "${0%live}go" ]; do sleep 0.1; done
 exit 6
 """

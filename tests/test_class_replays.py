@@ -1,4 +1,4 @@
-"""Farms that do long records again: `class` waits for them as long as they work, stops none of them, and says what is known."""
+"""Farms that replay long records, or aren't up yet: who waits for them, and what is said of them."""
 
 import os
 import re
@@ -12,13 +12,16 @@ from support.courses import Course, ended
 from support.live_lines import SECONDS
 from support.trials import TOP, put, run, text_of
 
-# A `live` that works before it answers until a file is there, as it does with a long record; and one that does nothing.
-WORKING = """#!/bin/bash
-until [ -e "$0-go" ]; do :; done
+# A `live` that does nothing before it answers until a file is there.
+IDLE = """#!/bin/bash
+until [ -e "$0-go" ]; do sleep 0.5; done
 exec "{live}" "$@"
 """
-IDLE = WORKING.replace("do :;", "do sleep 0.5;")
 QUICK = (2, 65, 5, 1)
+# A program that counts without end: `ldc 0; stl 1; ldl 1; adc 1; stl 1; j`. No two of its moments are alike.
+COUNTING = ("join 0 1", "boot 0 b440d17181d1600b")
+# So many seconds it counts before the farm is stopped.
+COUNTING_SECONDS = 8
 
 
 def held(it: Course, text: str, live: str) -> None:
@@ -28,38 +31,42 @@ def held(it: Course, text: str, live: str) -> None:
     os.chmod(it.env["LIVE"], 0o755)
 
 
-def status_of(it: Course) -> list[str]:
-    return it.must("status").splitlines()
+def asked(it: Course, user: str, line: str) -> bytes:
+    """What a student is answered at the terminal."""
+    done = run([f"{TOP}/connect", it.folder, user, "-c", line], more=it.env)
+    assert done.status == 0
+    return done.output
 
 
-def test_who_works_is_waited_for(live: str) -> None:
-    """Longer than a silent farm is. What is known is in the status, and no order stops the farm; Ctrl-C's message says it too."""
+def now_of(it: Course) -> list[str]:
+    """What `class status` says of each student's machine."""
+    return [re.split("  +", row)[7] for row in it.must("status").splitlines()[1:3]]
+
+
+def test_a_replay_holds_up_nobody_else(live: str) -> None:
+    """A student's program that counted for long is replayed at the next start. The farm is up at once and the other student is
+    answered; no order stops the farm meanwhile; and the student's next line is answered when all is replayed, as ever."""
+    del live
     with Course(2) as it:
         it.must("start")
+        for line in COUNTING:
+            asked(it, "student-1", line)
+        asked(it, "student-1", "poke 0 80000100 12345678")
+        time.sleep(COUNTING_SECONDS)
+        assert asked(it, "student-1", "look 0").startswith(b"look 0 running ")
         it.must("stop")
-        held(it, WORKING, live)
-        start = it.begin("start", bounds=QUICK)
-        end = time.monotonic() + SECONDS
-        while not any("isn't up yet" in line for line in status_of(it)) and time.monotonic() < end:
-            time.sleep(0.2)
-        lines = status_of(it)
-        assert [re.split("  +", row)[7] for row in lines[1:3]] == ["again"] * 2
-        pattern = (
-            r"farm-1 isn't up yet: what was done is done again since \d+ s, from records of \d\.\d KiB, and the last start "
-            r"took \d+ s with \d\.\d KiB"
-        )
-        assert [line for line in lines if re.fullmatch(pattern, line)] == lines[4:5]
+        assert it.must("start").splitlines()[-1] == "farm-1: up, 2 users"
+        assert asked(it, "student-2", "look 0") == b"look 0 booting overruns 0 0 0 0\n"
+        assert now_of(it) == ["busy replaying", "quiet"]
         serving = it.lock(1)
         for order in (("add", it.folder, "Ada"), ("finish", it.folder)):
             done = it.call(*order)
-            said = "class: farm-1 does its records again: try again when class status shows that it is up\n"
-            assert (order[0], done.returncode) == (order[0], 1)
-            assert done.stderr == said or "another class is at work" in done.stderr
-        time.sleep(4)
-        assert (start.poll(), it.lock(1)) == (None, serving)
-        put(f"{it.env['LIVE']}-go", "")
-        told, status = ended(start)
-        assert (told.splitlines()[-1], status, it.lock(1)) == ("farm-1: up, 2 users", 0, serving)
+            said = (
+                "class: farm-1 replays what was done by student-1: try again when class status shows nobody as replaying\n"
+            )
+            assert (done.returncode, done.stderr, it.lock(1)) == (1, said, serving)
+        assert asked(it, "student-1", "look 0").splitlines()[-1].startswith(b"look 0 running ")
+        assert now_of(it) == ["busy", "quiet"]
 
 
 def test_who_does_nothing_is_not_waited_for(live: str) -> None:
@@ -70,21 +77,6 @@ def test_who_does_nothing_is_not_waited_for(live: str) -> None:
         held(it, IDLE, live)
         told, status = ended(it.begin("start", bounds=QUICK))
         assert (status, "farm-1: it isn't up after" in told) == (1, True)
-
-
-def test_no_order_stops_a_farm_that_replays(live: str) -> None:
-    """An order that needs to stop a farm is refused while that does its records again, and the farm goes on with it."""
-    with Course(1) as it:
-        it.must("start")
-        it.must("stop")
-        held(it, IDLE, live)
-        ended(it.begin("start", bounds=(0.5, 65, 5, 1)))
-        serving, kept = it.lock(1), text_of(f"{it.folder}/class.json")
-        for order in (("add", it.folder, "Ada"), ("finish", it.folder)):
-            done = it.call(*order)
-            said = "class: farm-1 does its records again: try again when class status shows that it is up\n"
-            assert (done.returncode, done.stderr, it.lock(1)) == (1, said, serving)
-        assert text_of(f"{it.folder}/class.json") == kept
 
 
 @pytest.mark.parametrize("how", [signal.SIGTERM, signal.SIGHUP, signal.SIGKILL])
@@ -114,19 +106,3 @@ def test_an_order_that_is_ended_while_it_waits_is_done(live: str, how: signal.Si
         assert done.output == b"peek 0 12345678\n"
         assert [name for name in os.listdir(it.folder) if name.startswith("class.")] == ["class.json", "class.lock"]
         assert sorted(os.listdir(f"{it.folder}/farm-1/records")) == ["eve.replay", "lock", "student-1.replay"]
-
-
-@pytest.mark.long
-def test_the_log_says_how_long(live: str) -> None:
-    """The log has a line each half minute, which says for how long records are done again."""
-    with Course(1) as it:
-        it.must("start")
-        it.must("stop")
-        held(it, WORKING, live)
-        start = it.begin("start")
-        time.sleep(35)
-        put(f"{it.env['LIVE']}-go", "")
-        ended(start)
-        assert "serve: what was done is done again since 30 s, from records of" in text_of(
-            f"{it.folder}/farm-1/serve.log"
-        )

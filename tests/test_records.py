@@ -736,7 +736,7 @@ def long_record(path: str, head: str, megabytes: int) -> int:
 
 @pytest.mark.long
 def test_long_records_are_told(folder: str) -> None:
-    """How far long records are done again is told, nothing of short ones, and those of several domains are done side by side. A
+    """How far long records are replayed is told, nothing of short ones, and those of several domains are replayed side by side. A
     farm that is killed meanwhile leaves them as they are."""
     # what the records say is more than usual rooms take
     rooms = ("--room", "1G", "--record-room", "1G")
@@ -755,7 +755,7 @@ def test_long_records_are_told(folder: str) -> None:
         assert threads >= 3
         told += [live.hear_error() for _ in range(3)]
         assert sorted(told) == sorted(
-            f"{live.path_of(it)}: {done} of 33 MiB are done again\n"
+            f"{live.path_of(it)}: {done} of 33 MiB are replayed\n"
             for it in ("ann.replay", "bob.replay")
             for done in (16, 32)
         )

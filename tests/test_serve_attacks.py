@@ -330,30 +330,21 @@ def test_files_have_a_limit() -> None:
 
 @pytest.mark.long
 def test_progress_is_told() -> None:
-    """While a long record is done again the sockets are there, and its user is told how far it is."""
+    """While a long record is replayed the others are answered, and its user is told how far it is."""
     with Served(plan_of_users(["ann", "bob"])) as it:
         assert it.stop()[0] == 0
         line = "0 look 0 @0 = booting overruns 0 0 0 0\n"
         with open(f"{it.folder}/records/ann.replay", "a", encoding="utf-8") as file:
             file.write(line * ((200 << 20) // len(line)))
         # what it says is more than usual rooms take
-        starting = threading.Thread(target=lambda: it.start("--room", "2G", "--record-room", "2G"))
-        starting.start()
-        while not os.path.exists(f"{it.folder}/bob.sock"):
-            time.sleep(0.01)
-        time.sleep(0.2)
+        it.start("--room", "2G", "--record-room", "2G")
         ann, bob = it.client("ann"), it.client("bob")
-        heard = [ann.hear() for _ in range(2)]
         ann.say("look 0\n")
+        bob.say("look 0\n")
+        assert bob.hear() == LOOKED
+        heard = [ann.hear()]
         while heard[-1] != LOOKED:
             heard.append(ann.hear())
-        assert heard[0] == "note: the farm isn't up yet. Lines are answered when it is"
-        assert [
-            text
-            for text in heard[1:-2]
-            if not re.fullmatch(r"note: what your machine did is done again: \d+ of 200 MiB", text)
-        ] == []
-        assert heard[-2:] == ["note: the farm is up", LOOKED]
-        assert [bob.hear() for _ in range(2)] == [heard[0], "note: the farm is up"]
-        starting.join()
+        far = re.compile(r"note: what your machine did is replayed: \d+ %(, some \d+ s left)?")
+        assert heard[:-1] and all(far.fullmatch(text) for text in heard[:-1])
         assert it.stop()[0] == 0

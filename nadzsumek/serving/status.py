@@ -10,7 +10,6 @@ import socket
 from .escapes import escaped
 from .folder import NOT_PROVED, OPERATOR, is_locked, socket_path
 from .records import last_fault
-from .replays import told
 
 # How long a farm may take for what its operator asks.
 SECONDS = 10
