@@ -45,7 +45,8 @@ def now_of(it: Course) -> list[str]:
 
 def test_a_replay_holds_up_nobody_else(live: str) -> None:
     """A student's program that counted for long is replayed at the next start. The farm is up at once and the other student is
-    answered; no order stops the farm meanwhile; and the student's next line is answered when all is replayed, as ever."""
+    answered; no order stops the farm meanwhile; and the student's next line is answered when all is replayed, as ever.
+    """
     del live
     with Course(2) as it:
         it.must("start")
@@ -61,9 +62,7 @@ def test_a_replay_holds_up_nobody_else(live: str) -> None:
         serving = it.lock(1)
         for order in (("add", it.folder, "Ada"), ("finish", it.folder)):
             done = it.call(*order)
-            said = (
-                "class: farm-1 replays what was done by student-1: try again when class status shows nobody as replaying\n"
-            )
+            said = "class: farm-1 replays what was done by student-1: try again when class status shows nobody as replaying\n"
             assert (done.returncode, done.stderr, it.lock(1)) == (1, said, serving)
         assert asked(it, "student-1", "look 0").splitlines()[-1].startswith(b"look 0 running ")
         assert now_of(it) == ["busy", "quiet"]

@@ -38,7 +38,7 @@ from .folder import (
 from .kept import Kept, Rooms, own_class
 from .plans import LIMIT, Machine, farms_of, plan_of, students_of
 from .replacement import replace
-from .rooms import RECORD_ROOM, ROOM, Needed, add_rooms
+from .rooms import Needed, add_bounds
 from .sheets import count, sheet, sheet_path, ways_of
 from .status import table, told_by
 from .supervising import LEAVE_OFF, Supervisor, tell
@@ -55,7 +55,7 @@ FOLDER_ALONE = "the folder of the class behind it, and nothing else"
 
 def say_rooms(folder: str, domains: int, rooms: Rooms) -> None:
     """Says what the rooms may take together, if there isn't so much."""
-    needed = Needed(domains, *rooms, folder)
+    needed = Needed(domains, rooms.room, rooms.record_room, folder)
     warnings = [*needed.warnings()]
     print("".join(f"{escaped(it)}\n" for it in ([f"note: {needed.told()}", *warnings] if warnings else [])), end="")
 
@@ -92,7 +92,7 @@ def make(words: argparse.Namespace) -> int:
             files[sheet_path(folder, name)] = sheet(students[name], name, machine, place, ways).encode()
     rights = ["--mode", f"{words.mode:03o}"] + (["--group", words.group] if words.group else [])
     rights += [PROVED] if words.proved else []
-    rooms = Rooms(words.room, words.record_room)
+    rooms = Rooms().changed(words)
     files[os.path.join(folder, CLASS)] = Kept(farms, rights, rooms, machine).text().encode()
     with hold(folder, fcntl.LOCK_EX):
         check_free(words.DIR)
@@ -120,15 +120,15 @@ def start_with(words: list[str]) -> int:
     """Starts the farms with other rooms than they had, or with proved programs alone, which is kept from then on."""
     parser = argparse.ArgumentParser(
         prog="class start",
-        usage="class start [--room SIZE] [--record-room SIZE] [--proved] DIR",
-        description="Starts the farms of a class with other rooms, or with proved programs alone, also from then on.",
+        usage="class start [--room SIZE] [--record-room SIZE] [--line-steps SIZE] [--restart-steps SIZE] [--proved] DIR",
+        description="Starts the farms of a class with other bounds, or with proved programs alone, also from then on.",
     )
-    add_rooms(parser, None, None)
+    add_bounds(parser)
     add_proved(parser)
     parser.add_argument("DIR", help="the folder of the class")
     it = parser.parse_args(words)
     kept = own_class(it.DIR)
-    rooms = Rooms(it.room or kept.rooms.room, it.record_room or kept.rooms.record_room)
+    rooms = kept.rooms.changed(it)
     rights = kept.rights + ([PROVED] if it.proved and PROVED not in kept.rights else [])
     if (rooms, rights) != (kept.rooms, kept.rights):
         for farm in kept.farms:
@@ -265,9 +265,9 @@ MORE_ORDERS: dict[str, Callable[[list[str]], int]] = {
 
 ABOUT_ORDERS = """\
 a class that is there:
-  class start DIR             starts the farms that aren't up, and waits until they answer. With --room or --record-room
-                              they have other rooms from then on, and with --proved they run no program that isn't
-                              proved; stop them first
+  class start DIR             starts the farms that aren't up, and waits until they answer. With --room, --record-room,
+                              --line-steps or --restart-steps they have other bounds from then on, and with --proved they
+                              run no program that isn't proved; stop them first
   class serve DIR/FARM        is the serve of one farm, until it is stopped, as a unit of systemd wants it; also with --sync
   class serve DIR             is those of all farms, until it is stopped, also of farms that are added later
   class stop DIR              stops the farms; they go on where they were when they are started again
@@ -301,8 +301,8 @@ def words_of(given: list[str]) -> argparse.Namespace:
         formatter_class=argparse.RawDescriptionHelpFormatter,
         usage="""\
 class --students NAMES.txt --nodes N [--hosts H] [--memory M] [--limit L] [--room SIZE] [--record-room SIZE]
-             [--mode M] [--group G] [--proved] DIR
-       class start [--room SIZE] [--record-room SIZE] [--proved] DIR
+             [--line-steps SIZE] [--restart-steps SIZE] [--mode M] [--group G] [--proved] DIR
+       class start [--room SIZE] [--record-room SIZE] [--line-steps SIZE] [--restart-steps SIZE] [--proved] DIR
        class serve [--sync] DIR|DIR/FARM
        class stop|status DIR
        class add [--students NAMES.txt] DIR [NAME ..]
@@ -328,7 +328,7 @@ class --students NAMES.txt --nodes N [--hosts H] [--memory M] [--limit L] [--roo
     parser.add_argument(
         "--limit", type=int, default=LIMIT[-1], metavar="L", help=f"how many events are recorded, default {LIMIT[-1]}"
     )
-    add_rooms(parser, ROOM, RECORD_ROOM)
+    add_bounds(parser, has_defaults=True)
     parser.add_argument(
         "--mode", type=mode_of, default=0o600, metavar="M", help="the mode of the students' sockets, default 600"
     )

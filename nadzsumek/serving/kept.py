@@ -2,6 +2,7 @@
 
 from __future__ import annotations
 
+import argparse
 import difflib
 import json
 import os
@@ -10,17 +11,24 @@ from typing import Any, NamedTuple
 
 from .folder import CLASS, OPERATOR, OTHERS_WRITE, Refused, check_own, check_own_file
 from .plans import Machine, user_name
-from .rooms import RECORD_ROOM, ROOM, bytes_of
+from .rooms import BOUNDS, bounds_in, bytes_of, words_of_bounds
 
 
 class Rooms(NamedTuple):
-    """The rooms of each student's domain: sizes as `serve` takes them."""
+    """The bounds of each student's domain: sizes as `serve` takes them."""
 
-    room: str = ROOM
-    record_room: str = RECORD_ROOM
+    room: str = BOUNDS["room"][0]
+    record_room: str = BOUNDS["record-room"][0]
+    line_steps: str = BOUNDS["line-steps"][0]
+    restart_steps: str = BOUNDS["restart-steps"][0]
 
     def words(self) -> list[str]:
-        return ["--room", self.room, "--record-room", self.record_room]
+        return words_of_bounds({name: getattr(self, name.replace("-", "_")) for name in BOUNDS})
+
+    def changed(self, words: argparse.Namespace) -> Rooms:
+        """The same with those bounds that the words of the command line give."""
+        given = {name.replace("-", "_"): value for name, value in bounds_in(words).items() if value}
+        return self._replace(**given)
 
 
 class Kept(NamedTuple):

@@ -9,8 +9,14 @@ import os
 import re
 from collections.abc import Iterator
 
-# What each domain has unless another room is given, as `live` has it.
-ROOM, RECORD_ROOM = "64M", "256M"
+# The bounds of a domain: what each is unless another is given, as `live` has it, and what it bounds.
+BOUNDS = {
+    "room": ("64M", "the memory for the journal and the lists of a domain, such as 16M or 2G"),
+    "record-room": ("256M", "the bytes on the disk for the records of a domain"),
+    "line-steps": ("16G", "the Steps that the nodes of a domain may do after a line of its users"),
+    "restart-steps": ("64G", "the Steps that the nodes of a domain may do until it restarts"),
+}
+ROOM, RECORD_ROOM = BOUNDS["room"][0], BOUNDS["record-room"][0]
 UNITS = {"": 1, "K": 1 << 10, "M": 1 << 20, "G": 1 << 30}
 LEAST, MOST = 1 << 20, 64 << 30
 # Where the system says what a service may have of memory, below the path of its group.
@@ -18,35 +24,35 @@ GROUPS = "/sys/fs/cgroup"
 
 
 def bytes_of(word: str) -> int | None:
-    """How many bytes a size is, such as 64M; none if it is no size, or one that no room may have."""
+    """How many a size is, such as 64M; none if it is no size, or one that no bound may have."""
     size = re.fullmatch(r"([0-9]{1,12})([KMG]?)", word, re.ASCII)
     count = int(size[1]) * UNITS[size[2]] if size else 0
     return count if LEAST <= count <= MOST else None
 
 
 def size_of(word: str) -> str:
-    """A word of the command line that is a room's size, as it is handed to `live`."""
+    """A word of the command line that is a bound, as it is handed to `live`."""
     if bytes_of(word) is None:
-        raise argparse.ArgumentTypeError("a room's bytes are wanted, from 1M to 64G, such as 64M")
+        raise argparse.ArgumentTypeError("a number is wanted, from 1M to 64G, such as 64M")
     return word
 
 
-def add_rooms(parser: argparse.ArgumentParser, room: str | None, record_room: str | None) -> None:
-    """The words for rooms, with these sizes unless others are given."""
-    parser.add_argument(
-        "--room",
-        type=size_of,
-        default=room,
-        metavar="SIZE",
-        help=f"the memory for the journal and the lists of a domain, such as 16M or 2G, default {ROOM}",
-    )
-    parser.add_argument(
-        "--record-room",
-        type=size_of,
-        default=record_room,
-        metavar="SIZE",
-        help=f"the bytes on the disk for the records of a domain, default {RECORD_ROOM}",
-    )
+def add_bounds(parser: argparse.ArgumentParser, has_defaults: bool = False) -> None:
+    """The words for the bounds of a domain. One that isn't given is none, unless there are defaults."""
+    for name, (default, what) in BOUNDS.items():
+        given = default if has_defaults else None
+        text = f"{what}, default {default}"
+        parser.add_argument(f"--{name}", type=size_of, default=given, metavar="SIZE", help=text)
+
+
+def words_of_bounds(bounds: dict[str, str | None]) -> list[str]:
+    """The words of the command line that say these bounds, without those that are none."""
+    return [word for name in BOUNDS if (value := bounds.get(name)) for word in (f"--{name}", value)]
+
+
+def bounds_in(words: argparse.Namespace) -> dict[str, str | None]:
+    """What the words of the command line say of each bound."""
+    return {name: getattr(words, name.replace("-", "_")) for name in BOUNDS}
 
 
 def shown(count: int) -> str:

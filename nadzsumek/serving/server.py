@@ -39,7 +39,7 @@ from .folder import (
 from .replays import REPLAYED, Replay
 from .ports import Wiring, found_in, ports_told, users_in, wiring_in
 from .reports import Reports, open_streams
-from .rooms import RECORD_ROOM, ROOM, Needed, add_rooms
+from .rooms import RECORD_ROOM, ROOM, Needed, add_bounds, bounds_in, words_of_bounds
 from .rooms import shown as shown_size
 from .speakers import UNANSWERED, Asked, Client, Operator, Speaker, shown, without_tag
 from .versions import add_version
@@ -117,13 +117,8 @@ class Server:
             if (value := getattr(it, name)) is not None
             for word in (f"--{name}", str(value))
         ]
-        # a room that isn't given is left to `live`
-        more += [
-            word
-            for name, value in (("room", it.room), ("record-room", it.record_room))
-            if value is not None
-            for word in (f"--{name}", value)
-        ]
+        # a bound that isn't given is left to `live`
+        more += words_of_bounds(bounds_in(it))
         more += ["--sync"] if it.sync else []
         return [program("live"), *more, "--record", self.folder.records, "--resume", self.plan]
 
@@ -477,7 +472,7 @@ def words_of(given: list[str]) -> argparse.Namespace:
     it.add_argument("DIR", help="the folder for sockets and records; it is made if it isn't there")
     it.add_argument("--workers", type=int, metavar="N", help="as for live")
     it.add_argument("--quantum", type=int, metavar="N", help="as for live")
-    add_rooms(it, None, None)
+    add_bounds(it)
     it.add_argument(
         "--mode", type=mode_of, default=0o600, metavar="M", help="the mode of the users' sockets, default 600"
     )
