@@ -108,11 +108,15 @@ class Recorded(Live):
         super().__init__(plan, words, begun=begun)
 
     def users(self) -> dict[str, list[str]]:
-        """What the operator is told of each user, by name: the words behind it, without the numbers of rooms."""
+        """What the operator is told of each user when nothing is replayed any more, by name: the words behind it, without the
+        numbers of rooms."""
         names = re.findall(r'name = "(\w+)"', text_of(self.plan))
-        self.say("!users\n")
-        told = (self.hear().split() for _ in names)
-        return {words[1]: words[2:5] + [it for it in words[5:] if not it.isdecimal()] for words in told}
+        while True:
+            self.say("!users\n")
+            told = [self.hear().split() for _ in names]
+            if not any("replaying" in words for words in told):
+                return {words[1]: words[2:5] + [it for it in words[5:] if not it.isdecimal()] for words in told}
+            time.sleep(0.02)
 
     def path_of(self, name: str) -> str:
         return f"{self.records}/{name}"
@@ -217,7 +221,14 @@ def test_hours_of_a_loop_take_seconds(folder: str) -> None:
     reads = [at for at, line in enumerate(wrong.splitlines(), 1) if line.startswith("0 read 0 ")]
     put(path, wrong)
     with Recorded(plan, folder, True) as live:
-        assert live.end() == (6, [], [f"{path}: line {reads[0]}: the domain doesn't answer so\n"])
+        assert live.ask("ann look 0") == "ann error 1 record\n"
+        assert live.end() == (
+            0,
+            [],
+            is_out(
+                path, f"line {reads[0]}: the domain doesn't answer so", "ann", "ann", f"{folder}/records/ann.2.replay"
+            ),
+        )
     # to the end of the record, and to the end of the loop's line, after which the loop goes on
     for kept, state in ((None, "booting"), (behind - 1, "running")):
         put(path, "".join(right.splitlines(keepends=True)[:kept]))

@@ -12,6 +12,7 @@ use std::alloc::{Alloc, Global};
 use std::collections::VecDeque;
 use std::fs::{self, File, Files, OpenOptions};
 use std::io;
+use std::os::unix::fs::FileExt;
 
 /// The newest record of a domain, before any file changes.
 #[derive(Drop)]
@@ -23,6 +24,8 @@ pub(crate) struct FoundRecord {
     pub(crate) path: String,
     /// The records before it that are there, the oldest first.
     pub(crate) older: Vec<OlderRecord>,
+    /// Its file, or why it can't be taken; none if there is no record.
+    pub(crate) file: Option<Result<File, RecordFault>>,
 }
 
 impl FoundRecord {
@@ -82,16 +85,40 @@ fn record_head(alloc: Global, plan: &AcceptedPlan, number: u8) -> Result<String,
     }
 }
 
-/// Opens a record that is there.
-pub(crate) fn open_found<F: Files<File = File>>(
+// Opens a record that is there, if it begins with this head.
+fn open_found<F: Files<File = File>>(
     files: &F,
     path: &str,
+    head: &[u8],
 ) -> Result<File, RecordFault> {
-    OpenOptions::new()
+    let file = OpenOptions::new()
         .read(true)
         .append(true)
         .open(files, path)
-        .map_err(RecordFault::of_read)
+        .map_err(RecordFault::of_read)?;
+    if begins_with(&file, head).map_err(RecordFault::of_read)? {
+        Ok(file)
+    } else {
+        Err(RecordFault::Head)
+    }
+}
+
+// Whether a file begins with a head, or has no more than a beginning of it.
+fn begins_with(file: &File, head: &[u8]) -> io::Result<bool> {
+    let mut bytes = [0u8; 512];
+    let mut done = 0;
+    for _ in 0..=head.len() {
+        let (_, left) = head.split_at(done);
+        let count = file.read_at(&mut bytes, done as u64)?.min(left.len());
+        if count == 0 {
+            break;
+        }
+        if bytes.get(..count) != left.get(..count) {
+            return Ok(false);
+        }
+        done += count;
+    }
+    Ok(true)
 }
 
 impl<'a, F: Files<File = File> + Alloc<A = Global> + Clone + Drop> RecordFolder<'a, F> {
@@ -126,12 +153,18 @@ impl<'a, F: Files<File = File> + Alloc<A = Global> + Clone + Drop> RecordFolder<
             let why = "it is there already: --resume goes on with it";
             return Err(FileFailure::of_record(self.alloc, path.as_str(), why));
         }
+        let file = if newest > 0 {
+            Some(open_found(self.files, path.as_str(), head.as_bytes()))
+        } else {
+            None
+        };
         Ok(FoundRecord {
             head,
             stem,
             number: newest,
             path,
             older,
+            file,
         })
     }
 

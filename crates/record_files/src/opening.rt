@@ -1,11 +1,12 @@
 //! The records of a farm that is opened: one that is there is to be replayed, and else the first one begins.
 
 use crate::failure::FileFailure;
-use crate::finding::{FoundRecord, open_found};
+use crate::finding::FoundRecord;
 use crate::record_file::{FileRecords, RecordFile, RecordPlace};
 use crate::record_folder::RecordFolder;
 use crate::replay::{FileReplay, RecordStart};
 use domain_core::{Journal, NoMemory};
+use farm_records::RecordFault;
 use plan_checker::AcceptedPlan;
 use record_keeping::{DomainRecord, RecordStore};
 use std::alloc::{Alloc, Global};
@@ -28,6 +29,29 @@ impl<F: Files<File = File>> Drop for OpenedRecords<'_, F> {
             replays: _,
         } = self;
     }
+}
+
+// Why a record isn't taken, as a run that ends early says it.
+fn refusal_of(alloc: Global, path: &str, fault: &RecordFault) -> FileFailure {
+    match format!(in alloc; "{fault}") {
+        Ok(why) => FileFailure::of_record(alloc, path, why.as_str()),
+        Err(_) => FileFailure::Memory,
+    }
+}
+
+// If no record that is there can be taken, why the first can't be.
+fn find_fault(alloc: Global, found: &[FoundRecord]) -> Result<(), FileFailure> {
+    for record in found {
+        if matches!(record.file, Some(Ok(_))) {
+            return Ok(());
+        }
+    }
+    for record in found {
+        if let Some(Err(fault)) = &record.file {
+            return Err(refusal_of(alloc, record.path.as_str(), fault));
+        }
+    }
+    Ok(())
 }
 
 impl<'a, F: Files<File = File> + Alloc<A = Global> + Clone + Drop> RecordFolder<'a, F> {
@@ -76,7 +100,6 @@ impl<'a, F: Files<File = File> + Alloc<A = Global> + Clone + Drop> RecordFolder<
     fn start_of(&self, found: FoundRecord) -> Result<RecordStart<'a, F>, NoMemory> {
         Ok(RecordStart {
             place: self.place(found.stem.as_str())?,
-            file: open_found(self.files, found.path.as_str()),
             found,
         })
     }
@@ -86,14 +109,16 @@ impl<'a, F: Files<File = File> + Alloc<A = Global> + Clone + Drop> RecordFolder<
     ///
     /// # Errors
     ///
-    /// `Record` if a record is there and the farm doesn't resume; `System` if a call of the system failed. Each names its file.
-    /// `Memory` if that ran out of memory, and `Histories` if a domain has no users. No file changes before all records are found.
+    /// `Record` if a record is there and the farm doesn't resume, or if none begins with the head of its domain; `System` if a call of
+    /// the system failed. Each names its file. `Memory` if that ran out of memory, and `Histories` if a domain has no users. No file
+    /// changes before all records are found.
     pub fn open_records(
         &self,
         plan: &AcceptedPlan,
         resumes: bool,
     ) -> Result<OpenedRecords<'a, F>, FileFailure> {
         let found = self.find_records(plan, resumes)?;
+        find_fault(self.alloc, found.as_slice())?;
         let mut records = Vec::with_capacity(self.alloc, found.len())?;
         let mut replays = Vec::with_capacity(self.alloc, found.len())?;
         for found in found {

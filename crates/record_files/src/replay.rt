@@ -19,26 +19,20 @@ use std::sync::{Mutex, Wait};
 pub(crate) struct RecordStart<'a, F: Files<File = File>> {
     pub(crate) found: FoundRecord,
     pub(crate) place: RecordPlace<'a, F>,
-    /// Its file, or why it can't be opened.
-    pub(crate) file: Result<File, RecordFault>,
 }
 
 // Dropped by hand, since a derived `Drop` makes callers prove the drop of each field.
 impl<F: Files<File = File>> Drop for RecordStart<'_, F> {
     fn drop(self) {
-        let RecordStart {
-            found: _,
-            place: _,
-            file: _,
-        } = self;
+        let RecordStart { found: _, place: _ } = self;
     }
 }
 
 impl<'a, F: Files<File = File>> RecordStart<'a, F> {
-    // The record, its place and its file.
-    fn into_parts(self) -> (FoundRecord, RecordPlace<'a, F>, Result<File, RecordFault>) {
-        let RecordStart { found, place, file } = self;
-        (found, place, file)
+    // The record, and its place.
+    fn into_parts(self) -> (FoundRecord, RecordPlace<'a, F>) {
+        let RecordStart { found, place } = self;
+        (found, place)
     }
 }
 
@@ -105,7 +99,10 @@ impl<'a, F: Files<File = File>> FileReplay<'a, F> {
         let Some(start) = start else {
             return;
         };
-        let (found, place, file) = start.into_parts();
+        let (mut found, place) = start.into_parts();
+        let Some(file) = found.file.take() else {
+            return;
+        };
         let ReplayOutputs {
             record,
             meter,
