@@ -7,7 +7,7 @@ use clap::error::ErrorKind;
 use live_farm::{LiveFailure, LiveOutputs, Outlet, SharedOutlet, no_records, no_replays, run_live};
 use live_lines::{LiveSettings, live_settings};
 use plan_checker::{AcceptedPlan, accept_plan};
-use record_files::{FileFailure, Notices, OpenedRecords, RecordFolder};
+use record_files::{FileFailure, FileRecords, FileReplay, Notices, RecordFolder};
 use script_text::{ReadFault, read_whole, write_whole};
 use std::fs::File;
 use std::io::{self, BufRead, BufReader};
@@ -59,13 +59,13 @@ fn serve<R: Threads + Wait + Sync, I: BufRead + Send, O: SharedOutlet + Sync, N:
         Some(records) => {
             let path = records.path.as_str();
             let folder = RecordFolder::open(files, alloc, path, records.syncs)?;
-            let opened: OpenedRecords<'_, HostRuntime> = folder.open_records(
-                &plan,
-                records.resumes,
-            )?;
+            let (kept, replays): (
+                FileRecords<'_, HostRuntime>,
+                Vec<FileReplay<'_, HostRuntime>>,
+            ) = folder.open_records(&plan, records.resumes)?;
             let outputs = LiveOutputs {
-                records: opened.records.as_slice(),
-                replays: opened.replays.as_slice(),
+                records: kept.as_slice(),
+                replays: replays.as_slice(),
                 outlet,
                 errors,
             };

@@ -17,7 +17,6 @@ pub use failure::FileFailure;
 pub use meter::ReplayMeter;
 pub use names::names_of;
 pub use notices::Notices;
-pub use opening::OpenedRecords;
 pub use record_file::{FileRecords, RecordFile};
 pub use record_folder::RecordFolder;
 pub use replay::{FileReplay, ReplayOutputs};

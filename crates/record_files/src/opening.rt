@@ -13,24 +13,6 @@ use std::alloc::{Alloc, Global};
 use std::fs::{File, Files};
 use std::sync::Mutex;
 
-/// The records of all domains, in the order of the plan, and what is to be replayed of each.
-pub struct OpenedRecords<'a, F: Files<File = File>> {
-    /// The records for what comes. One that is to be replayed can't be taken until then.
-    pub records: FileRecords<'a, F>,
-    /// What is to be replayed.
-    pub replays: Vec<FileReplay<'a, F>>,
-}
-
-// Dropped by hand, since a derived `Drop` makes callers prove the drop of each field.
-impl<F: Files<File = File>> Drop for OpenedRecords<'_, F> {
-    fn drop(self) {
-        let OpenedRecords {
-            records: _,
-            replays: _,
-        } = self;
-    }
-}
-
 // Why a record isn't taken, as a run that ends early says it.
 fn refusal_of(alloc: Global, path: &str, fault: &RecordFault) -> FileFailure {
     match format!(in alloc; "{fault}") {
@@ -104,8 +86,8 @@ impl<'a, F: Files<File = File> + Alloc<A = Global> + Clone + Drop> RecordFolder<
         })
     }
 
-    /// Opens the records of all domains of a plan. The newest record of a domain that has one stays as it is until it is replayed,
-    /// which is left to [`FileReplay::replay`]; else its first record begins.
+    /// Opens the records of all domains of a plan; with what is to be replayed of each. The newest record of a domain that has one stays
+    /// as it is until it is replayed, which is left to [`FileReplay::replay`], and can't be taken before; else its first record begins.
     ///
     /// # Errors
     ///
@@ -116,7 +98,7 @@ impl<'a, F: Files<File = File> + Alloc<A = Global> + Clone + Drop> RecordFolder<
         &self,
         plan: &AcceptedPlan,
         resumes: bool,
-    ) -> Result<OpenedRecords<'a, F>, FileFailure> {
+    ) -> Result<(FileRecords<'a, F>, Vec<FileReplay<'a, F>>), FileFailure> {
         let found = self.find_records(plan, resumes)?;
         find_fault(self.alloc, found.as_slice())?;
         let mut records = Vec::with_capacity(self.alloc, found.len())?;
@@ -130,6 +112,6 @@ impl<'a, F: Files<File = File> + Alloc<A = Global> + Clone + Drop> RecordFolder<
                 replays.push(FileReplay::of(self.alloc, self.start_of(found)?))?;
             }
         }
-        Ok(OpenedRecords { records, replays })
+        Ok((records, replays))
     }
 }

@@ -67,7 +67,10 @@ fn redo_file<R: Wait, N: Notices>(
 }
 
 /// The newest record of a domain, as it is replayed: then the record for what comes, or why it isn't taken.
-pub(crate) struct FileHistory<'a, 'b, F: Files<File = File>, N: Notices> {
+pub(crate) struct FileHistory<'a, 'b, F: Files<File = File>, N: Notices>
+where
+    RecordFile<'a, F>: RecordStore,
+{
     alloc: Global,
     errors: &'b N,
     meter: &'b ReplayMeter,
@@ -79,7 +82,10 @@ pub(crate) struct FileHistory<'a, 'b, F: Files<File = File>, N: Notices> {
 }
 
 // Dropped by hand, since a derived `Drop` makes callers prove the drop of each field.
-impl<F: Files<File = File>, N: Notices> Drop for FileHistory<'_, '_, F, N> {
+impl<'a, F: Files<File = File>, N: Notices> Drop for FileHistory<'a, '_, F, N>
+where
+    RecordFile<'a, F>: RecordStore,
+{
     fn drop(self) {
         let FileHistory {
             alloc: _,
@@ -93,7 +99,10 @@ impl<F: Files<File = File>, N: Notices> Drop for FileHistory<'_, '_, F, N> {
     }
 }
 
-impl<'a, 'b, F: Files<File = File>, N: Notices> FileHistory<'a, 'b, F, N> {
+impl<'a, 'b, F: Files<File = File>, N: Notices> FileHistory<'a, 'b, F, N>
+where
+    RecordFile<'a, F>: RecordStore,
+{
     /// A record that was found, at its place.
     pub(crate) fn new(
         alloc: Global,
@@ -200,7 +209,10 @@ impl<'a, 'b, F: Files<File = File>, N: Notices> FileHistory<'a, 'b, F, N> {
     }
 }
 
-impl<F: Files<File = File>, N: Notices> History for FileHistory<'_, '_, F, N> {
+impl<'a, F: Files<File = File>, N: Notices> History for FileHistory<'a, '_, F, N>
+where
+    RecordFile<'a, F>: RecordStore,
+{
     fn redo<R: Wait>(&mut self, rt: &R, domain: &mut SeatedDomain) -> bool {
         let taken = self.take(rt, domain);
         let is_taken = taken.is_ok();
