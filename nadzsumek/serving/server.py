@@ -193,7 +193,7 @@ class Server:
         if speaker.asks_ports(text):
             self.say_ports(speaker, asked)
             return
-        speaker.sent(self.current_live().say(speaker.line(text)), asked)
+        speaker.sent(*self.current_live().say(speaker.line(text)), asked)
 
     def answers_of_replay(self, text: bytes) -> list[bytes]:
         """What the operator is answered while records are done again: who waits for how long. Other lines wait too."""
@@ -256,14 +256,14 @@ class Server:
         if found := running.DONE_AGAIN.fullmatch(text):
             self.tell_progress(*found.groups())
         if found := running.NOBODYS.fullmatch(text):
-            self.give_up(int(found[1]))
+            self.pass_over(int(found[1]))
         self.tell_operator(text)
 
-    def give_up(self, number: int) -> None:
-        """Names a line that `live` couldn't read to who sent it."""
+    def pass_over(self, place: int) -> None:
+        """Names a line that `live` couldn't read to who sent it, by its place among all lines."""
         for speaker in self.speakers.values():
-            if number in speaker.asked:
-                speaker.give_up([number])
+            if lost := speaker.pass_over(place):
+                self.current_live().pass_over(speaker.line(lost.text))
 
     def tell_progress(self, record: str, far: str) -> None:
         """Tells the users of a domain how far its record is done again."""
