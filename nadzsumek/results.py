@@ -65,8 +65,8 @@ class Loaded:
 
 @dataclasses.dataclass(frozen=True)
 class Note:
-    """What a user hears besides the answers to lines. If his machine rests, `used` and `room` are the bytes of its room that
-    are used and that there are."""
+    """What a user hears besides the answers to lines. If his machine rests, `used` and `room` are the bytes of its room, or of
+    that of its records, that are used and that there are."""
 
     text: str
     used: int | None = None
@@ -74,8 +74,8 @@ class Note:
 
 
 def note_of(text: str) -> Note:
-    """A note as it came: `note rests USED ROOM` of the user's machine, or `note: TEXT` of the farm."""
-    rests = re.fullmatch(r"note rests (\d+) (\d+)", text)
+    """A note as it came: `note rests USED ROOM` of the user's machine or another form of it, or `note: TEXT` of the farm."""
+    rests = re.fullmatch(r"note rests (?:records )?(\d+) (\d+)", text)
     return Note(text, int(rests[1]), int(rests[2])) if rests else Note(text)
 
 

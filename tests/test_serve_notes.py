@@ -43,8 +43,10 @@ def note(count):
     for _ in range(count):
         print("ann note rests 60 64\\nbob note rests 60 64", flush=True)
 note(1)
-for number, line in enumerate(sys.stdin, 1):
+counts = {}
+for line in sys.stdin:
     name, _, verb = line.rstrip("\\n").partition(" ")
+    number = counts[name] = counts.get(name, 0) + 1
     if name == "!users":
         print("".join(f"!users {it} 0 9 1000 quiet rests 60 64 5 256\\n" for it in ("ann", "bob", "cas")), end="", flush=True)
     elif name == "!words":
@@ -89,7 +91,7 @@ def test_notes_answer_nothing() -> None:
         half = it.client("ann")
         half.say("look 1\nfull\nlook 2\n")
         half.stream.shutdown(1)
-        answered = [NOTE, NOTE, "look 1", NOTE, NOTE, "error 5 full", NOTE, NOTE, "look 2"]
+        answered = [NOTE, NOTE, "look 1", NOTE, NOTE, "error 2 full", NOTE, NOTE, "look 2"]
         assert [half.hear() for _ in range(10)] == [*answered, ""]
         for client in (ann, other):
             assert [client.hear() for _ in range(9)] == answered

@@ -15,6 +15,11 @@ MEANINGS = (
         "the room of your machine is used up, so its nodes do nothing more: restart begins anew with a room",
     ),
     (
+        r"note rests records \d+ \d+",
+        "the room of your machine's records is used up, so its nodes do nothing more: restart begins the next record",
+    ),
+    (r"note rests memory", "there was no memory for your machine, so its nodes do nothing more: restart begins anew"),
+    (
         r"rest full",
         "the room of your machine is used up, so its nodes do nothing more: restart begins anew with a room",
     ),

@@ -37,6 +37,11 @@ PAUSES = (1, 2, 4, 8, 16)
 NOBODYS = re.compile(r"error (\d+) user")
 
 
+def whose(line: bytes) -> bytes:
+    """What the lines of a speaker begin with."""
+    return line[:1] if line.startswith(b"!") else line.split(b" ", 1)[0]
+
+
 def how(status: int) -> str:
     """How a process ended."""
     if status < 0:
@@ -59,11 +64,13 @@ def give_back() -> None:
 
 
 class Live:
-    """One run of `live`. Its lines are counted as it counts them. `tell` is handed each line of its standard error."""
+    """One run of `live`. Its lines are counted as it counts them, all together and each speaker's. `tell` is handed each line
+    of its standard error."""
 
     def __init__(self, process: asyncio.subprocess.Process, tell: Tell) -> None:
         assert process.stdin and process.stdout and process.stderr, "all three are pipes"
         self.process, self.tell, self.count = process, tell, 0
+        self.counts = collections.Counter[bytes]()
         self.input, self.complaints = process.stdin, process.stderr
         self.errors: collections.deque[str] = collections.deque(maxlen=KEPT)
         self.lines = Lines(process.stdout)
@@ -106,11 +113,16 @@ class Live:
         self.errors.append(text)
         self.tell(text)
 
-    def say(self, line: bytes) -> int:
-        """Sends a line, and returns its number in this run."""
+    def say(self, line: bytes) -> tuple[int, int]:
+        """Sends a line, and returns its number in this run among those of who says it, and among all."""
         self.count += 1
+        self.counts[whose(line)] += 1
         self.input.write(line)
-        return self.count
+        return self.counts[whose(line)], self.count
+
+    def pass_over(self, line: bytes) -> None:
+        """The line isn't among those of who said it, since `live` couldn't read whose it was."""
+        self.counts[whose(line)] -= 1
 
     async def users(self) -> list[str]:
         """The names of the plan's users, in its order; none if the program has ended. What it says besides is kept, as the notes

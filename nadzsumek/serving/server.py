@@ -185,7 +185,7 @@ class Server:
         if speaker.asks_ports(text):
             self.say_ports(speaker, asked)
             return
-        speaker.sent(self.current_live().say(speaker.line(text)), asked)
+        speaker.sent(*self.current_live().say(speaker.line(text)), asked)
 
     def tell_operator(self, text: str) -> None:
         self.reports.say(text)
@@ -232,14 +232,14 @@ class Server:
         if found := REPLAYED.fullmatch(text):
             self.tell_progress(text[: found.end(2)], found[2], int(found[3]), found[4])
         if found := running.NOBODYS.fullmatch(text):
-            self.give_up(int(found[1]))
+            self.pass_over(int(found[1]))
         self.tell_operator(text)
 
-    def give_up(self, number: int) -> None:
-        """Names a line that `live` couldn't read to who sent it."""
+    def pass_over(self, place: int) -> None:
+        """Names a line that `live` couldn't read to who sent it, by its place among all lines."""
         for speaker in self.speakers.values():
-            if number in speaker.asked:
-                speaker.give_up([number])
+            if lost := speaker.pass_over(place):
+                self.current_live().pass_over(speaker.line(lost.text))
 
     def tell_progress(self, path: str, record: str, done: int, mebibytes: str | None) -> None:
         """Tells the users of a domain how far its record is replayed."""

@@ -53,12 +53,13 @@ Hear = Callable[[bytes | None], tuple["Speaker", bytes, "Asked"]]
 class Asked:
     """A line on its way: its text, who sent it (nobody if `serve` itself asks), as how many lines it counts, the tag that
     stood before it, and what is called with its answer, or with none if there will be none: that makes of it what a speaker is
-    told, and of which line."""
+    told, and of which line. `place` is its number among all lines of this run of `live`."""
 
     def __init__(
         self, text: bytes, client: Client | None, size: int, tag: bytes = b"", hear: Hear | None = None
     ) -> None:
         self.text, self.client, self.size, self.tag, self.hear = text, client, size, tag, hear
+        self.place = 0
 
 
 def without_tag(line: bytes) -> tuple[bytes, bytes]:
@@ -111,9 +112,9 @@ class Speaker:
         """Whether a line asks which ports are joined."""
         return text.removesuffix(b"\r") == PORTS
 
-    def sent(self, number: int, asked: Asked) -> None:
-        """The line is that of this number among the lines of this run of `live`."""
-        self.asked[number] = asked
+    def sent(self, number: int, place: int, asked: Asked) -> None:
+        """The line is that of this number among the speaker's lines of this run of `live`, and of this place among all."""
+        self.asked[number], asked.place = asked, place
         if asked.client is not None:
             asked.client.waits += 1
 
@@ -168,6 +169,17 @@ class Speaker:
                 speaker.rest()
         self.rest()
 
+    def pass_over(self, place: int) -> Asked | None:
+        """Names the line of this place among all to its client, if it is this speaker's: `live` couldn't read whose it is, and
+        so doesn't count it among them."""
+        number = next((number for number, asked in self.asked.items() if asked.place == place), None)
+        if number is None:
+            return None
+        lost = self.asked[number]
+        self.give_up([number])
+        self.asked = {it - (it > number): asked for it, asked in self.asked.items()}
+        return lost
+
     def rest(self) -> None:
         """Ends the clients that send nothing more and wait for nothing."""
         for client in [*self.clients]:
@@ -213,9 +225,9 @@ class Operator(Speaker):
     def watch(self, live: Live, hear: Hear | None = None) -> Callable[[], bool]:
         """Asks whether `live` still answers, and returns how that is seen: the question is asked no longer. `hear` is called with
         the answer."""
-        number = live.say(WATCHED)
-        self.asked[number] = Asked(WATCHED[:-1], None, 0, hear=hear)
-        return lambda: number not in self.asked
+        asked = Asked(WATCHED[:-1], None, 0, hear=hear)
+        self.sent(*live.say(WATCHED), asked)
+        return lambda: asked not in self.asked.values()
 
     def answered(self, answer: bytes) -> Asked | None:
         """`!users` has a line for each user; `!restart` is answered when its domain has begun anew."""

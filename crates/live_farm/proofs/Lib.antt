@@ -5,3 +5,4 @@ pub mod Recorded
 pub mod Keeping
 pub mod Members
 pub mod Following
+pub mod Sendings

@@ -1,6 +1,6 @@
 -- What holds of each member of a list by its place: the invariants `theirs` and `named` of `UserGroup`.
-use Rattle.std.proofs.Common.{◌≡◌, ◌<◌, ℕ, zero, suc, List, [], ◌∷◌, ◌++◌, Some, Ok, Err, length, map, set, take, slice_get, refl, sym, subst, ap, ◌∙◌, arith}
-use Rattle.std.specs.Prelude.{IfOk, IfErr, Result}
+use Rattle.std.proofs.Common.{◌≡◌, ◌<◌, ℕ, zero, suc, List, [], ◌∷◌, ◌++◌, Some, Ok, Err, length, map, set, take, slice_get, refl, sym, subst, ap, ◌∙◌, arith, false}
+use Rattle.std.specs.Prelude.{IfOk, IfErr, Result, is_ok}
 use Rattle.domain_core.specs.declared.event.Refusal.{Refusal}
 use Rattle.domain_core.specs.declared.event.Refusal.TheVariants.{NoSuch}
 use Rattle.farm_service.specs.Passes.{SessionValue}
@@ -61,6 +61,12 @@ pub as_many_after : {A : Type 0} (outcome : Result A Refusal) (old new : List Se
 as_many_after (Ok x) old new done same =
     ap (λ (ss : List SessionValue). length ss) done ∙ length_map begun_anew old
 as_many_after (Err e) old new done same = ap (λ (ss : List SessionValue). length ss) same.1
+
+-- what follows from a refusal of `NoSuch` holds if a call isn't Ok
+pub if_refused : {A P : Type 0} (outcome : Result A Refusal) (old new : List SessionValue) → is_ok outcome ≡ false
+    → IfErr outcome (λ refusal. (refusal ≡ NoSuch) × (new ≡ old)) → (outcome ≡ Err NoSuch → P) → P
+if_refused (Ok x) old new is same holds = absurd cc
+if_refused (Err e) old new is same holds = holds (ap (λ (r : Refusal). Err r) same.0)
 
 -- sessions stay in order if all begin again, or none does
 pub in_order_after : {A : Type 0} (outcome : Result A Refusal) (number : ℕ) (old new : List SessionValue)

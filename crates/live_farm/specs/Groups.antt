@@ -8,7 +8,7 @@ use Rattle.farm_service.specs.Passes.{SessionValue}
 use Rattle.script_lines.specs.declared.command.Command.{Command}
 use Rattle.line_answers.specs.Sessions.{IsAnswered}
 use Rattle.script_lines.specs.declared.fault.LineFault.TheVariants as fault
-use Rattle.farm_service.specs.Restarts.{begun_anew}
+use Rattle.farm_service.specs.Restarts.{AreAllOfOne, begun_anew}
 use Rattle.live_lines.specs.declared.asked.WholeRequest.TheVariants as whole
 use Rattle.live_lines.specs.declared.asked.LiveRequest.TheVariants as request
 use Rattle.live_farm.specs.declared.answering.QueuedAnswer.{QueuedAnswer}
@@ -74,12 +74,17 @@ AnswersRest group user text =
     (name : List ℕ) × (status : DomainStatus) × IsNamedSo group user name × IsStatusHere group status
     × (text ≡ rest_text name (rest_state_of status))
 
+-- these aren't the sessions of all users of a domain, in their order
+abbrev pub AreNotAll : UserGroup → Type 0
+AreNotAll group = ¬ AreAllOfOne group.service.now.plan group.sessions.items
+
 -- a user who is alone in a domain begins it again; or the user is answered that only the operator may
 abbrev pub AnswersRestart : UserGroup → UserGroup → ℕ → Bool → List ℕ → Type 0
 AnswersRestart before after user done text =
     (name : List ℕ) × IsNamedSo before user name × (text ≡ restart_text name done)
     × BeginsIf done before after
     × (done ≡ true → length before.sessions.items ≡ 1)
+    × (done ≡ false → length before.sessions.items ≡ 1 → AreNotAll before)
 
 -- the domain has no node of the number that is asked for
 abbrev pub LacksNode : UserGroup → Option ℕ → List ℕ → List ℕ → Type 0
@@ -104,6 +109,7 @@ AnswersOperator before after user number done text =
     (name : List ℕ) × IsNamedSo before user name × BeginsIf done before after
     × (text
     ≡ (if done then operator_restart_text name else error_text (codes "!") number (why.Fault fault.User)))
+    × (done ≡ false → AreNotAll before)
 
 -- a wrong line asks nothing, and its user is answered why it is wrong
 abbrev pub AnswersWrong : UserGroup → UserGroup → ℕ → ℕ → NotDone → List ℕ → Type 0

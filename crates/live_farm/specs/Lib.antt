@@ -9,6 +9,9 @@ pub mod Fates
 pub mod Closings
 -- what only helps contracts
 pub mod FarmUsers
+pub mod LineCounts
+pub mod LineRooms
+pub mod Served
 pub mod Sending
 pub mod Kept
 pub mod Mailboxes

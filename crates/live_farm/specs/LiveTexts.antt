@@ -1,12 +1,16 @@
 -- The answers that a script hasn't. The words are our own.
-use Rattle.std.specs.Prelude.{◌++◌, ℕ, Bool, List, codes, is_some, if◌then◌else◌}
+use Rattle.std.specs.Prelude.{◌≡◌, ◌++◌, ℕ, Bool, List, Some, codes, is_some, if◌then◌else◌}
 use Rattle.std.specs.Fmt.{decimal}
 use Rattle.std.specs.List.{flat_map}
 use Rattle.std.specs.Str.Lines.{lines}
 use Rattle.script_lines.specs.Faults.{fault_word}
+use Rattle.farm_service.specs.declared.resting.RestCause.TheVariants as cause
 use Rattle.farm_service.specs.declared.status.DomainStatus.{DomainStatus}
+use Rattle.farm_service.specs.declared.status.RoomStatus.{RoomStatus}
 use Rattle.live_farm.specs.declared.texts.RestState.{RestState}
 use Rattle.live_farm.specs.declared.texts.RestState.TheVariants as rest
+use Rattle.live_farm.specs.declared.texts.RestNote.{RestNote}
+use Rattle.live_farm.specs.declared.texts.RestNote.TheVariants as note
 use Rattle.live_farm.specs.declared.texts.NotDone.{NotDone}
 use Rattle.live_farm.specs.declared.texts.NotDone.TheVariants as why
 
@@ -43,9 +47,26 @@ rest_state_of status =
 abbrev pub rest_text : List ℕ → RestState → List ℕ
 rest_text name state = name ++ codes " rest " ++ rest_word state ++ codes "\n"
 
--- the domain of a user rests, since `used` of the `room` bytes of its room are used
-abbrev pub note_text : List ℕ → ℕ → ℕ → List ℕ
-note_text name used room = name ++ codes " note rests " ++ decimal used ++ codes " " ++ decimal room ++ codes "\n"
+-- why the domain of a user rests: since `used` of the `room` bytes of its room or of that of its records are used, or
+-- since memory ran out
+abbrev pub note_text : List ℕ → RestNote → List ℕ
+note_text name (note.Room used room) =
+    name ++ codes " note rests " ++ decimal used ++ codes " " ++ decimal room ++ codes "\n"
+note_text name (note.Records used room) =
+    name ++ codes " note rests records " ++ decimal used ++ codes " " ++ decimal room ++ codes "\n"
+note_text name note.Memory = name ++ codes " note rests memory\n"
+note_text name note.Steps = name ++ codes " note rests steps\n"
+note_text name note.Line = name ++ codes " note rests line\n"
+
+-- this is why a domain rests by its status, if its records may take that many bytes
+abbrev pub IsNoteOf : RoomStatus → ℕ → RestNote → Type 0
+IsNoteOf status record_room (note.Room used room) =
+    (status.rests ≡ Some cause.RoomUsedUp) × (used ≡ status.bytes) × (room ≡ status.room_bytes)
+IsNoteOf status record_room (note.Records used room) =
+    (status.rests ≡ Some cause.RecordsFull) × (room ≡ record_room)
+IsNoteOf status record_room note.Memory = status.rests ≡ Some cause.NoMemory
+IsNoteOf status record_room note.Steps = status.rests ≡ Some cause.EventsUsedUp
+IsNoteOf status record_room note.Line = status.rests ≡ Some cause.NoLine
 
 -- whether a user's domain begins again: if others share it only the operator may ask for that
 abbrev pub restart_text : List ℕ → Bool → List ℕ

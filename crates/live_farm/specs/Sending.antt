@@ -1,11 +1,16 @@
 -- What is sent of a line that was read.
-use Rattle.std.specs.Prelude.{◌<◌, ⊤, ℕ}
+use Rattle.std.specs.Prelude.{◌<◌, ⊤, ℕ, List}
+use Rattle.script_text.specs.declared.input_line.InputLine.{InputLine}
+use Rattle.script_text.specs.InputLines.{IsNextLine}
 use Rattle.live_lines.specs.declared.asked.OperatorRequest.{OperatorRequest}
 use Rattle.live_lines.specs.declared.asked.OperatorRequest.TheVariants as operator
 use Rattle.live_farm.specs.declared.fate.LineFate.{LineFate}
 use Rattle.live_farm.specs.declared.fate.LineFate.TheVariants as fate
+use Rattle.live_farm.specs.declared.line_counts.LineCounts.{LineCounts}
 use Rattle.live_farm.specs.declared.queued.QueuedRequest.{QueuedRequest}
 use Rattle.live_farm.specs.declared.queued.QueuedRequest.TheVariants as line
+use Rattle.live_farm.specs.Fates.{IsFate}
+use Rattle.live_farm.specs.LineCounts.{IsCounted}
 
 -- what a call of who takes lines says of a user's place among all, of a line's number, and of a request
 abbrev pub SenderSays : Type 0 → Type 1
@@ -26,3 +31,15 @@ IsFateSent was_sent sender count number (fate.Refused user w) =
 IsFateSent was_sent sender count number (fate.Operator request) =
     IsOperatorsSent was_sent sender count number request
 IsFateSent was_sent sender count number other = ⊤
+
+-- the next line of a text was read, of this number of bytes at the most, was counted as a line of its user, and was
+-- sent under that number as it asks
+pub record IsNextSent {U : Type 0} (was_sent : SenderSays U) (sender : U) (names : List (List ℕ)) (count most : ℕ)
+    (before after : LineCounts) (text : List ℕ) : Type 0 where
+  pub read : InputLine
+  pub fate : LineFate
+  pub number : ℕ
+  pub next : IsNextLine text most read
+  pub becomes : IsFate names read fate
+  pub counted : IsCounted fate before after number
+  pub sent : IsFateSent was_sent sender count number fate

@@ -4,7 +4,7 @@ ghost use Rattle.farm_service.specs.Restarts.{begun_anew};
 ghost use Rattle.farm_service.specs.declared.status.DomainStatus.{DomainStatus as SpecStatus};
 ghost use Rattle.live_farm.specs.Asking.{commands_asked};
 ghost use Rattle.live_farm.specs.LiveTexts.{rest_state_of};
-ghost use Rattle.live_farm.specs.Groups.{IsStatusHere, AnswersLine, AnswersRest, AnswersRestart, AnswersWhy, AnswersOperator, AnswersQueued};
+ghost use Rattle.live_farm.specs.Groups.{IsStatusHere, AnswersLine, AnswersRest, AnswersRestart, AnswersWhy, AnswersOperator, AnswersQueued, AreNotAll};
 ghost use Rattle.live_farm.specs.Groups.{IsSameDomain, StaysAfterError};
 
 use crate::asked::AskedCommands;
@@ -120,6 +120,7 @@ impl UserGroup<'_> {
     fn begin_anew<R: Wait>(&mut self, rt: &R) -> bool
         ensures done { result ≡ true → self.new.sessions.items ≡ map begun_anew self.old.sessions.items }
         ensures refused { result ≡ false → self.new.sessions.items ≡ self.old.sessions.items }
+        ensures not_all { result ≡ false → AreNotAll self.old }
         ensures names { self.new.names ≡ self.old.names }
         ensures same { IsSameDomain self.old self.new }
     {

@@ -1,10 +1,11 @@
 //! Who reads the lines: users' lines go to the threads of their domains, and the operator's are answered here.
-ghost use Rattle.std.specs.Prelude.{◌<◌, OnOk, length};
-ghost use Rattle.live_farm.specs.Sending.{IsOperatorsSent, IsFateSent};
+ghost use Rattle.std.specs.Prelude.{◌≡◌, ◌<◌, IfSome, OnOk, length, map};
+ghost use Rattle.live_farm.specs.Sending.{IsOperatorsSent, IsFateSent, IsNextSent};
 
 use crate::failure::LiveStop;
 use crate::farm_users::FarmUsers;
 use crate::fate::{LineFate, fate_of};
+use crate::line_counts::LineCounts;
 use crate::mailbox::Sent;
 use crate::operator::Operator;
 use crate::outlet::SharedOutlet;
@@ -158,18 +159,25 @@ impl<U: LineSender> Dispatcher<'_, '_, U> {
         operator: &mut Operator<'_>,
         input: &mut I,
         errors: &N,
-        number: u64,
-    ) -> Result<ControlFlow<()>, LiveStop> {
+        counts: &mut LineCounts,
+    ) -> Result<ControlFlow<()>, LiveStop>
+        requires { counts.old.users ≡ length self.now.farm_users.now.names.items }
+        ensures sent { OnOk result (IfSome (I.remaining input.old)
+            (IsNextSent U.was_sent self.now.sender.now (map (λ n. n.now) self.now.farm_users.now.names.items)
+            (length self.now.farm_users.now.names.items) MOST_LINE_BYTES counts.old counts.new)) }
+        ensures users { counts.new.users ≡ counts.old.users }
+    {
         let read = match next_line(self.alloc, input, MOST_LINE_BYTES) {
             Ok(read) => read,
             Err(error) => return Err(LiveStop::of_input(&error)),
         };
         self.look(rt, outlet)?;
         let fate = fate_of(self.alloc, self.farm_users.names.as_slice(), &read);
+        let number = counts.count(&fate);
         self.hand_out(rt, outlet, operator, errors, number, fate)
     }
 
-    /// Reads lines until the input ends or the operator stops the farm. They count from 1.
+    /// Reads lines until the input ends or the operator stops the farm. Those of each user count from 1.
     pub fn read_lines<R: Wait, O: SharedOutlet, I: BufRead, N: Notices>(
         &self,
         rt: &R,
@@ -178,11 +186,10 @@ impl<U: LineSender> Dispatcher<'_, '_, U> {
         input: &mut I,
         errors: &N,
     ) -> Result<(), LiveStop> {
-        let mut number: u64 = 0;
+        let mut counts = LineCounts::new(self.alloc, self.farm_users.names.len())?;
         for _ in rt.forever() {
-            number = number.saturating_add(1);
             if self
-                .take_line(rt, outlet, operator, input, errors, number)?
+                .take_line(rt, outlet, operator, input, errors, &mut counts)?
                 .is_break()
             {
                 break;

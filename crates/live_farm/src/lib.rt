@@ -4,12 +4,14 @@
 mod answering;
 mod asked;
 mod causes;
+mod counting;
 mod dispatcher;
 mod failure;
 mod farm_users;
 mod fate;
 mod group;
 mod joining;
+mod line_counts;
 mod mailbox;
 mod operator;
 mod outlet;

@@ -1,5 +1,5 @@
 //! One writer for many threads, which holds whole lines.
-ghost use Rattle.std.specs.Prelude.{◌≡◌, true, false, ◌||◌, OnOk, OnErr, IsErr, string_bytes};
+ghost use Rattle.std.specs.Prelude.{◌≡◌, ℕ, List, ⊤, true, false, ◌||◌, OnOk, OnErr, IsErr, string_bytes};
 ghost use Rattle.std.specs.Io.KnownBytes.{Appends};
 ghost use Rattle.live_farm.specs.WholeLines.{is_whole};
 
@@ -58,8 +58,12 @@ impl<W: Write, const TRACKED: u64> Outlet<W, TRACKED> {
 
 /// Where answers go from any thread.
 pub trait SharedOutlet {
+    // Holds after a call of `put_answer` with an answer of these bytes.
+    ghost was_put: { Self → List ℕ → Type 0 } = { λ _ _. ⊤ };
+
     /// Writes an answer. Whether that failed is seen by [`SharedOutlet::has_failed`].
-    fn put_answer<R: Wait>(&self, rt: &R, answer: &LiveAnswer);
+    fn put_answer<R: Wait>(&self, rt: &R, answer: &LiveAnswer)
+        ensures { was_put self.now (string_bytes answer.now.text) };
 
     /// Whether a write has failed.
     fn has_failed<R: Wait>(&self, rt: &R) -> bool;

@@ -18,7 +18,7 @@ pub enum QueuedRequest {
 pub struct QueuedLine {
     /// The number in the domain of the user whose line it is, or whom the operator names.
     pub user: u8,
-    /// The number of the line.
+    /// The number of the line among those of who asks, from 1.
     pub number: u64,
     /// What is to be answered.
     pub request: QueuedRequest,

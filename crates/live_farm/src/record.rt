@@ -1,7 +1,8 @@
 //! The record of a domain, which threads share.
-ghost use Rattle.std.specs.Prelude.{◌≡◌, ℕ, List, ⊤, IfErr, IfOk, OnOk};
+ghost use Rattle.std.specs.Prelude.{◌≡◌, ◌≢◌, ℕ, List, ⊤, IfErr, IfOk, OnOk};
 ghost use Rattle.plan_rules.specs.Data.{DomainData};
 ghost use Rattle.live_farm.specs.Kept.{HasKept};
+ghost use Rattle.live_farm.specs.declared.record.RecordSizes.{RecordSizes as SpecSizes};
 
 use crate::asked::AskedCommands;
 use crate::failure::LiveFailure;
@@ -64,6 +65,12 @@ pub trait SharedRecord {
     // Holds after a call of `keep` whose error is `Out`.
     ghost was_out: { Self → Type 0 } = { λ _. ⊤ };
 
+    // Holds after a call that says that something isn't recorded: an error of `keep`, or a state other than `Kept`.
+    ghost has_lacked: { Self → Type 0 } = { λ _. ⊤ };
+
+    // Holds after a call of `sizes` whose result is this.
+    ghost had_sizes: { Self → SpecSizes → Type 0 } = { λ _ _. ⊤ };
+
     /// As [`DomainRecord::keep`], for the domain that was asked.
     fn keep<R: Wait>(
         &self,
@@ -74,13 +81,16 @@ pub trait SharedRecord {
     ) -> Result<(), NotKept>
         ensures kept { OnOk result (has_kept self.now service.now.plan asked.domain asked.commands) }
         ensures asked { was_asked self.now service.now.plan asked.domain asked.commands }
-        ensures out { IfErr result (λ e. e ≡ NotKept.Out → was_out self.now) };
+        ensures out { IfErr result (λ e. e ≡ NotKept.Out → was_out self.now) }
+        ensures lacks { IfErr result (λ _. has_lacked self.now) };
 
     /// How it is with the record.
-    fn state<R: Wait>(&self, rt: &R) -> RecordState;
+    fn state<R: Wait>(&self, rt: &R) -> RecordState
+        ensures { result ≢ RecordState.Kept → has_lacked self.now };
 
     /// How many bytes the domain's records take.
-    fn sizes<R: Wait>(&self, rt: &R) -> RecordSizes;
+    fn sizes<R: Wait>(&self, rt: &R) -> RecordSizes
+        ensures { had_sizes self.now result };
 
     /// As [`DomainRecord::remove_oldest`]. If nothing is recorded there is none.
     fn remove_oldest<R: Wait>(&self, rt: &R) -> io::Result<Option<String>>;
@@ -248,6 +258,7 @@ pub(crate) fn keep_and_tell<R: Wait, K: SharedRecord, N: Notices>(
         → K.has_kept outputs.now.«record».now service.now.plan asked.domain asked.commands) }
     ensures asked { K.was_asked outputs.now.«record».now service.now.plan asked.domain asked.commands }
     ensures out { IfOk result (λ state. state ≡ RecordState.Out → K.was_out outputs.now.«record».now) }
+    ensures lacks { IfOk result (λ state. state ≢ RecordState.Kept → K.has_lacked outputs.now.«record».now) }
 {
     let before = outputs.record.state(rt);
     match outputs.record.keep(rt, service, asked, begins_anew) {

@@ -1,4 +1,6 @@
 //! How much room a line may need in its domain, and in the domain's records.
+ghost use Rattle.std.specs.Prelude.{◌≡◌, false};
+ghost use Rattle.live_farm.specs.LineRooms.{Lacks, command_bytes, most_commands, most_commands_of, record_line_bytes};
 
 use crate::queued::QueuedRequest;
 use domain_core::{ENTRY_BYTES, LOOK_BYTES, QUEUE_BYTES, TOLD_BYTES};
@@ -12,7 +14,9 @@ const COMMAND_BYTES: u64 = ENTRY_BYTES + LOOK_BYTES + TOLD_BYTES;
 const RECORD_LINE_BYTES: u64 = 128;
 
 // How many commands a line asks at the most. One that collects asks until nothing has come.
-fn most_commands(command: &Command) -> u64 {
+fn most_commands(command: &Command) -> u64
+    ensures { result ≡ most_commands command.now }
+{
     match command {
         Command::Config(bytes) | Command::Write { bytes, .. } => bytes.len() as u64,
         Command::Boot { code, .. } => (code.len() as u64).saturating_add(1),
@@ -23,7 +27,9 @@ fn most_commands(command: &Command) -> u64 {
 }
 
 /// How many commands a request asks at the most.
-pub(crate) fn commands_of(request: &QueuedRequest) -> u64 {
+pub(crate) fn commands_of(request: &QueuedRequest) -> u64
+    ensures { result ≡ most_commands_of request.now }
+{
     match request {
         QueuedRequest::Asked(LiveRequest::Script(command)) => most_commands(command),
         QueuedRequest::Asked(LiveRequest::Domain(_))
@@ -33,12 +39,16 @@ pub(crate) fn commands_of(request: &QueuedRequest) -> u64 {
 }
 
 /// Whether `commands` more commands fit into a room of `room` bytes, if `taken` bytes are taken. It is true if `commands` is 0.
-pub(crate) fn has_room(taken: u64, room: u64, commands: u64) -> bool {
+pub(crate) fn has_room(taken: u64, room: u64, commands: u64) -> bool
+    ensures { result ≡ false → Lacks command_bytes taken room commands }
+{
     commands == 0 || taken.saturating_add(commands.saturating_mul(COMMAND_BYTES)) <= room
 }
 
 /// The same of the events of `commands` more commands and the room of a domain's records.
-pub(crate) fn has_record_room(taken: u64, room: u64, commands: u64) -> bool {
+pub(crate) fn has_record_room(taken: u64, room: u64, commands: u64) -> bool
+    ensures { result ≡ false → Lacks record_line_bytes taken room commands }
+{
     commands == 0 || taken.saturating_add(commands.saturating_mul(RECORD_LINE_BYTES)) <= room
 }
 

@@ -1,7 +1,9 @@
 //! A domain's thread: it answers the lines that come to its mailbox.
-ghost use Rattle.std.specs.Prelude.{◌≡◌, ◌<◌, ◌⊎◌, false, length, IfOk, string_bytes};
-ghost use Rattle.live_farm.specs.Asking.{commands_asked};
-ghost use Rattle.live_farm.specs.Groups.{AllStay, AnswersQueued, TellsUnrecorded, TellsFull, may_be_answered};
+ghost use Rattle.std.specs.Prelude.{◌≡◌, ◌≢◌, ◌<◌, false, is_some, length, IfOk, IfSome, OnOk, string_bytes};
+ghost use Rattle.live_farm.specs.Groups.{AllStay, TellsUnrecorded, TellsFull, may_be_answered};
+ghost use Rattle.live_farm.specs.LineRooms.{LacksDomainRoom, LacksRoom};
+ghost use Rattle.live_farm.specs.LiveTexts.{IsNoteOf};
+ghost use Rattle.live_farm.specs.Served.{AnswersKept, PutsAnswer};
 
 use crate::answering::{QueuedAnswer, answer_queued};
 use crate::asked::AskedCommands;
@@ -14,8 +16,11 @@ use crate::record::{
 };
 use crate::replay::Replay;
 use crate::room::{commands_of, has_record_room, has_room, is_used_up, most_journal};
-use crate::texts::{LiveAnswer, NotDone, error_answer, error_answer_in, note_answer};
+use crate::texts::{
+    LiveAnswer, NotDone, RestNote, error_answer, error_answer_in, note_answer, rest_notice,
+};
 use domain_core::NoMemory;
+use farm_service::{RestCause, RoomStatus};
 use live_lines::LiveRequest;
 use record_files::{Notices, ReplayMeter, ReplayOutputs, names_of};
 use std::alloc::Global;
@@ -48,10 +53,11 @@ pub struct Station<'a> {
     // How it is with its record: whether something isn't recorded, and whether the record can't be taken.
     unrecorded: AtomicBool,
     out: AtomicBool,
-    // How many bytes its records take, and how many of them the newest.
+    // How many bytes its records take, and how many they may take.
     record_bytes: AtomicU64,
-    newest_bytes: AtomicU64,
-    bounds: DomainBounds,
+    record_room: u64,
+    // How many events its nodes may record after a line of its users.
+    line_steps: u64,
     // Whether its users were sent the note that it rests.
     rest_is_told: AtomicBool,
 }
@@ -68,8 +74,8 @@ impl Drop for Station<'_> {
             unrecorded: _,
             out: _,
             record_bytes: _,
-            newest_bytes: _,
-            bounds: _,
+            record_room: _,
+            line_steps: _,
             rest_is_told: _,
         } = self;
     }
@@ -92,8 +98,8 @@ impl<'a> Station<'a> {
             unrecorded: AtomicBool::new(false),
             out: AtomicBool::new(false),
             record_bytes: AtomicU64::new(0),
-            newest_bytes: AtomicU64::new(0),
-            bounds,
+            record_room: bounds.record_room,
+            line_steps: bounds.line_steps,
             rest_is_told: AtomicBool::new(false),
         })
     }
@@ -104,21 +110,15 @@ impl<'a> Station<'a> {
     }
 
     /// How many bytes its records may take.
-    pub fn record_room(&self) -> u64 {
-        self.bounds.record_room
+    pub fn record_room(&self) -> u64
+        ensures { result ≡ self.now.record_room }
+    {
+        self.record_room
     }
 
     /// Notes how many bytes its records take.
     pub fn note_sizes(&self, sizes: RecordSizes) {
         self.record_bytes.store(sizes.all(), Ordering::SeqCst);
-        self.newest_bytes.store(sizes.newest, Ordering::SeqCst);
-    }
-
-    // Whether the newest record has room for the events of `commands` commands. Older ones don't count, since they are removed
-    // if there is too little room.
-    fn has_record_room(&self, commands: u64) -> bool {
-        let newest = self.newest_bytes.load(Ordering::SeqCst);
-        has_record_room(newest, self.bounds.record_room, commands)
     }
 
     /// How many lines of a user were answered.
@@ -163,8 +163,8 @@ impl<'a> Station<'a> {
             unrecorded: _,
             out: _,
             record_bytes: _,
-            newest_bytes: _,
-            bounds: _,
+            record_room: _,
+            line_steps: _,
             rest_is_told: _,
         } = self;
         group.into_inner()
@@ -247,21 +247,35 @@ fn full_answer(
     }
 }
 
-// Whether the domain has room for what a line asks at the most, and its records have.
-fn has_room_for<R: Wait>(
-    rt: &R,
-    group: &UserGroup<'_>,
-    queued: &QueuedLine,
-    station: &Station<'_>,
-) -> bool {
-    let commands = commands_of(&queued.request);
+// Whether the domain has room for what a line asks at the most.
+fn has_domain_room<R: Wait>(rt: &R, group: &UserGroup<'_>, commands: u64) -> bool
+    ensures { result ≡ false → LacksDomainRoom group.now commands }
+{
     let room = group.service.room().bytes();
     match group.service.room_status(rt, group.domain) {
-        Ok(status) => {
-            has_room(status.bytes, room, commands) && station.has_record_room(commands)
-        }
+        Ok(status) => has_room(status.bytes, room, commands),
         Err(_) => true,
     }
+}
+
+// Whether the domain has room for what a line asks at the most, and its newest record has. Older ones don't count, since they are
+// removed if there is too little room.
+fn has_room_for<R: Wait, K: SharedRecord, N: Notices>(
+    rt: &R,
+    station: &Station<'_>,
+    group: &UserGroup<'_>,
+    queued: &QueuedLine,
+    outputs: &RecordOutputs<'_, K, N>,
+) -> bool
+    ensures { result ≡ false
+        → LacksRoom K.had_sizes outputs.now.«record».now station.now.record_room group.now queued.now.request }
+{
+    let commands = commands_of(&queued.request);
+    if !has_domain_room(rt, group, commands) {
+        return false;
+    }
+    let newest = outputs.record.sizes(rt).newest;
+    has_record_room(newest, station.record_room(), commands)
 }
 
 // Answers a line, and records what the domain answered by then before the answer is given to anybody: the record has at least
@@ -271,16 +285,15 @@ fn answer_and_keep<R: Wait, K: SharedRecord, N: Notices>(
     rt: &R,
     alloc: Global,
     state: RecordState,
-    has_room: bool,
+    station: &Station<'_>,
     group: &mut UserGroup<'_>,
     queued: &QueuedLine,
     outputs: &RecordOutputs<'_, K, N>,
 ) -> Result<AnsweredLine, NoMemory>
-    requires { queued.now.user < length group.old.sessions.items }
-    ensures answer { IfOk result (λ a. (AnswersQueued group.old group.new queued.now a.answer
-        × K.has_kept outputs.now.«record».now group.old.service.now.plan group.old.domain (commands_asked group.new))
-        ⊎ (TellsUnrecorded group.new queued.now (string_bytes a.answer.lines.text)
-        ⊎ (has_room ≡ false × AllStay group.old group.new × TellsFull group.new queued.now (string_bytes a.answer.lines.text)))) }
+    requires user { queued.now.user < length group.old.sessions.items }
+    requires lacks { state ≢ RecordState.Kept → K.has_lacked outputs.now.«record».now }
+    ensures answer { IfOk result (λ a. AnswersKept K.has_kept K.has_lacked K.had_sizes outputs.now.«record».now station.now.record_room
+        group.old group.new queued.now a.answer) }
     ensures not_asked { may_be_answered state queued.now.request ≡ false
         → IfOk result (λ a. AllStay group.old group.new × TellsUnrecorded group.new queued.now (string_bytes a.answer.lines.text)) }
 {
@@ -291,7 +304,7 @@ fn answer_and_keep<R: Wait, K: SharedRecord, N: Notices>(
             state,
         });
     }
-    if !has_room {
+    if !has_room_for(rt, station, group, queued, outputs) {
         return Ok(AnsweredLine {
             answer: QueuedAnswer::of_line(full_answer(alloc, group, queued)?),
             is_asked: false,
@@ -324,16 +337,39 @@ fn answer_and_keep<R: Wait, K: SharedRecord, N: Notices>(
 fn state_before<R: Wait, K: SharedRecord, N: Notices>(
     rt: &R,
     alloc: Global,
-    station: &Station<'_>,
     group: &UserGroup<'_>,
     outputs: &RecordOutputs<'_, K, N>,
-) -> Result<RecordState, NoMemory> {
-    match station.record_state() {
+) -> Result<RecordState, NoMemory>
+    ensures { IfOk result (λ state. state ≢ RecordState.Kept → K.has_lacked outputs.now.«record».now) }
+{
+    match outputs.record.state(rt) {
         RecordState::Unrecorded => {
             let asked = AskedCommands::of_group(group);
             keep_and_tell(rt, alloc, group.service, asked, outputs, false)
         }
         state => Ok(state),
+    }
+}
+
+// Settles the domain after a line of a script that was done. If there is no memory for that, or there was none for the line, the
+// domain rests.
+fn settle_after<R: Wait>(
+    rt: &R,
+    alloc: Global,
+    group: &UserGroup<'_>,
+    queued: &QueuedLine,
+    is_asked: bool,
+) {
+    if matches!(queued.request, QueuedRequest::Wrong(NotDone::Memory)) {
+        group.service.halt(group.domain);
+    }
+    let user = usize::from(queued.user);
+    if is_asked
+        && matches!(queued.request, QueuedRequest::Asked(LiveRequest::Script(_)))
+        && user < group.users()
+        && group.settle(rt, alloc, user).is_err()
+    {
+        group.service.halt(group.domain);
     }
 }
 
@@ -348,26 +384,17 @@ fn serve_queued<R: Wait, K: SharedRecord, O: SharedOutlet, N: Notices>(
     outlet: &O,
 ) -> Result<(), NoMemory>
     requires { queued.now.user < length group.old.sessions.items }
+    ensures put { OnOk result (PutsAnswer O.was_put outlet.now K.has_kept K.has_lacked K.had_sizes outputs.now.«record».now
+        station.now.record_room group.old group.new queued.now) }
 {
-    let state = state_before(rt, alloc, station, group, outputs)?;
-    let has_room = has_room_for(rt, group, queued, station);
-    let answered = answer_and_keep(rt, alloc, state, has_room, group, queued, outputs)?;
+    let state = state_before(rt, alloc, group, outputs)?;
+    let answered = answer_and_keep(rt, alloc, state, station, group, queued, outputs)?;
     station.note(answered.state);
     station.count(queued);
     // If there is no memory for a notice of an older record, the rest of this is left to the next line.
     let _ = note_records(rt, alloc, station, group, outputs);
     outlet.put_answer(rt, &answered.answer.lines);
-    if matches!(queued.request, QueuedRequest::Wrong(NotDone::Memory)) {
-        group.service.halt(group.domain);
-    }
-    let user = usize::from(queued.user);
-    if answered.is_asked
-        && matches!(queued.request, QueuedRequest::Asked(LiveRequest::Script(_)))
-        && user < group.users()
-        && group.settle(rt, alloc, user).is_err()
-    {
-        group.service.halt(group.domain);
-    }
+    settle_after(rt, alloc, group, queued, answered.is_asked);
     Ok(())
 }
 
@@ -412,7 +439,28 @@ fn write_what_waits<R: Wait, K: SharedRecord, N: Notices>(
     note_records(rt, alloc, station, group, outputs)
 }
 
-// Tells the users of a domain, and the operator, once that it rests.
+// Why a domain rests, none if it doesn't.
+fn rest_note(station: &Station<'_>, status: RoomStatus) -> Option<RestNote>
+    ensures why { IfSome result (IsNoteOf status station.now.record_room) }
+    ensures none { is_some result ≡ is_some status.rests }
+{
+    let note = match status.rests? {
+        RestCause::RoomUsedUp => RestNote::Room {
+            used: status.bytes,
+            room: status.room_bytes,
+        },
+        RestCause::RecordsFull => RestNote::Records {
+            used: station.record_bytes(),
+            room: station.record_room(),
+        },
+        RestCause::NoMemory => RestNote::Memory,
+        RestCause::EventsUsedUp => RestNote::Steps,
+        RestCause::NoLine => RestNote::Line,
+    };
+    Some(note)
+}
+
+// Tells the users of a domain, and the operator, once that it rests, and why.
 fn tell_rest<R: Wait, O: SharedOutlet, N: Notices>(
     rt: &R,
     alloc: Global,
@@ -424,20 +472,19 @@ fn tell_rest<R: Wait, O: SharedOutlet, N: Notices>(
     let Ok(status) = group.service.room_status(rt, group.domain) else {
         return Ok(());
     };
-    let rests = status.rests.is_some();
-    let was_told = station.rest_is_told.swap(rests, Ordering::SeqCst);
-    if !rests || was_told {
+    let note = rest_note(station, status);
+    let was_told = station.rest_is_told.swap(note.is_some(), Ordering::SeqCst);
+    let Some(note) = note else {
+        return Ok(());
+    };
+    if was_told {
         return Ok(());
     }
-    let (used, room) = (status.bytes, group.service.room().bytes());
     for name in &group.names {
-        outlet.put_answer(rt, &note_answer(alloc, name, used, room)?);
+        outlet.put_answer(rt, &note_answer(alloc, name, note)?);
     }
     let names = names_of(alloc, group.service.plan(), group.domain)?;
-    let line = format!(in alloc;
-        "the domain of {names} rests: {used} of {room} bytes are used. Its nodes do nothing more until it begins anew\n"
-    )?;
-    errors.tell(rt, line.as_str());
+    errors.tell(rt, rest_notice(alloc, names.as_str(), note)?.as_str());
     Ok(())
 }
 
@@ -486,8 +533,9 @@ fn serve_next<R: Wait, K: SharedRecord, O: SharedOutlet, N: Notices>(
         Mail::End => return false,
     };
     if usize::from(queued.user) < group.users() && !outlet.has_failed(rt) {
-        let steps = station.bounds.line_steps;
-        group.service.bound_events_of_line(rt, group.domain, steps);
+        group
+            .service
+            .bound_events_of_line(rt, group.domain, station.line_steps);
         if serve_queued(rt, alloc, station, group, &queued, outputs, outlet).is_err()
             && usize::from(queued.user) < group.users()
         {
@@ -521,8 +569,9 @@ fn replay_first<R: Wait, K: SharedRecord, P: Replay<K>, N: Notices>(
         station.note(outputs.record.state(rt));
         station.meter.note_under_way(false);
     }
-    let steps = station.bounds.line_steps;
-    group.service.bound_events_of_line(rt, group.domain, steps);
+    group
+        .service
+        .bound_events_of_line(rt, group.domain, station.line_steps);
     let _ = note_records(rt, alloc, station, group, outputs);
 }
 

@@ -175,12 +175,70 @@ pub fn rest_answer(alloc: Global, name: &str, state: RestState) -> Result<LiveAn
     Ok(answer)
 }
 
-/// That the domain of a user rests, since `used` of the `room` bytes of its room are used.
-pub fn note_answer(alloc: Global, name: &str, used: u64, room: u64) -> Result<LiveAnswer, NoMemory>
-    ensures { IfOk result (λ a. string_bytes a.text ≡ note_text name.now used room) }
+/// Why a domain rests. Of a room that is used up it says how many bytes are used and how many there are.
+#[derive(Clone, Copy)]
+pub enum RestNote {
+    /// The domain's room is used up.
+    Room { used: u64, room: u64 },
+    /// The room of its records is.
+    Records { used: u64, room: u64 },
+    /// Memory ran out.
+    Memory,
+    /// Its nodes have done as many Steps as they may until it restarts.
+    Steps,
+    /// They have done as many as they may after a line of its users.
+    Line,
+}
+
+/// That the domain of a user rests, and why.
+pub fn note_answer(alloc: Global, name: &str, note: RestNote) -> Result<LiveAnswer, NoMemory>
+    ensures { IfOk result (λ a. string_bytes a.text ≡ note_text name.now note) }
 {
-    let answer = LiveAnswer::line(format!(in alloc; "{name} note rests {used} {room}")?)?;
-    Ok(answer)
+    match note {
+        RestNote::Room { used, room } => {
+            let answer = LiveAnswer::line(format!(in alloc; "{name} note rests {used} {room}")?)?;
+            Ok(answer)
+        }
+        RestNote::Records { used, room } => {
+            let text = format!(in alloc; "{name} note rests records {used} {room}")?;
+            let answer = LiveAnswer::line(text)?;
+            Ok(answer)
+        }
+        RestNote::Memory => {
+            let answer = LiveAnswer::line(format!(in alloc; "{name} note rests memory")?)?;
+            Ok(answer)
+        }
+        RestNote::Steps => {
+            let answer = LiveAnswer::line(format!(in alloc; "{name} note rests steps")?)?;
+            Ok(answer)
+        }
+        RestNote::Line => {
+            let answer = LiveAnswer::line(format!(in alloc; "{name} note rests line")?)?;
+            Ok(answer)
+        }
+    }
+}
+
+/// That the domain of these users rests, and why, for standard error.
+pub fn rest_notice(alloc: Global, names: &str, note: RestNote) -> Result<String, NoMemory> {
+    let mut text = format!(in alloc; "the domain of {names} rests: ")?;
+    match note {
+        RestNote::Room { used, room } => write!(text, "{used} of {room} bytes are used")?,
+        RestNote::Records { used, room } => {
+            write!(text, "{used} of {room} bytes of its records are used")?;
+        }
+        RestNote::Memory => text.push_str("memory ran out")?,
+        RestNote::Steps => text.push_str("its nodes have done as many Steps as they may")?,
+        RestNote::Line => {
+            text.push_str("its nodes have done as many Steps as they may after a line")?;
+        }
+    }
+    let until = match note {
+        RestNote::Line => "its users' next line",
+        _ => "it begins anew",
+    };
+    write!(text, ". Its nodes do nothing more until {until}\n")?;
+    Ok(text)
 }
 
 /// Whether a user's domain begins again, or only the operator may ask for that.

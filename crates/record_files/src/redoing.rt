@@ -1,4 +1,6 @@
 //! A record that is there, replayed on its domain.
+ghost use Rattle.std.specs.Prelude.{◌≡◌, ◌++◌, IfOk, IfSome, string_bytes};
+ghost use Rattle.farm_records.specs.RecordText.{record_text, lines_of};
 
 use crate::finding::FoundRecord;
 use crate::meter::ReplayMeter;
@@ -66,11 +68,86 @@ fn redo_file<R: Wait, N: Notices>(
     Ok(WholePart { length, whole })
 }
 
-/// The newest record of a domain, as it is replayed: then the record for what comes, or why it isn't taken.
-pub(crate) struct FileHistory<'a, 'b, F: Files<File = File>, N: Notices>
-where
-    RecordFile<'a, F>: RecordStore,
-{
+/// Where the record of a domain comes from that is replayed.
+pub(crate) trait RecordSource<S: RecordStore> {
+    /// Replays the record on a domain as it was opened, and opens it for what comes; the store, and the head that it has.
+    ///
+    /// # Errors
+    ///
+    /// Why it can't be taken. What was done until then stays done.
+    fn open<R: Wait>(
+        &mut self,
+        rt: &R,
+        domain: &mut SeatedDomain,
+    ) -> Result<(S, String), RecordFault>
+        ensures whole { IfOk result (λ opened. S.whole opened.0 ≡ S.contents opened.0) }
+        ensures lines { IfOk result (λ opened. IfSome (S.contents opened.0)
+            (λ held. held ≡ string_bytes opened.1 ++ record_text (lines_of domain.new.journal))) };
+}
+
+/// The record of a domain, as it is replayed: then the record for what comes, or why it isn't taken.
+pub(crate) struct RecordHistory<S: RecordStore, P: RecordSource<S> + Drop> {
+    alloc: Global,
+    source: P,
+    taken: Option<Result<DomainRecord<S>, RecordFault>>,
+}
+
+// Dropped by hand, since a derived `Drop` makes callers prove the drop of each field.
+impl<S: RecordStore, P: RecordSource<S> + Drop> Drop for RecordHistory<S, P> {
+    fn drop(self) {
+        let RecordHistory {
+            alloc: _,
+            source: _,
+            taken: _,
+        } = self;
+    }
+}
+
+impl<S: RecordStore, P: RecordSource<S> + Drop> RecordHistory<S, P> {
+    /// The record that comes from here.
+    pub(crate) fn new(alloc: Global, source: P) -> RecordHistory<S, P> {
+        RecordHistory {
+            alloc,
+            source,
+            taken: None,
+        }
+    }
+
+    /// The record for what comes, or why the one that is there isn't taken.
+    pub(crate) fn into_taken(self) -> Result<DomainRecord<S>, RecordFault> {
+        let RecordHistory {
+            alloc: _,
+            source: _,
+            taken,
+        } = self;
+        match taken {
+            Some(taken) => taken,
+            None => Err(RecordFault::Ended),
+        }
+    }
+
+    // Replays the record, and opens it for what comes.
+    fn take<R: Wait>(
+        &mut self,
+        rt: &R,
+        domain: &mut SeatedDomain,
+    ) -> Result<DomainRecord<S>, RecordFault> {
+        let (store, head) = self.source.open(rt, domain)?;
+        Ok(DomainRecord::of(self.alloc, store, head, domain.journal())?)
+    }
+}
+
+impl<S: RecordStore, P: RecordSource<S> + Drop> History for RecordHistory<S, P> {
+    fn redo<R: Wait>(&mut self, rt: &R, domain: &mut SeatedDomain) -> bool {
+        let taken = self.take(rt, domain);
+        let is_taken = taken.is_ok();
+        self.taken = Some(taken);
+        is_taken
+    }
+}
+
+/// The file of the newest record of a domain.
+pub(crate) struct FileSource<'a, 'b, F: Files<File = File>, N: Notices> {
     alloc: Global,
     errors: &'b N,
     meter: &'b ReplayMeter,
@@ -78,32 +155,24 @@ where
     // What is opened once it is replayed.
     file: Option<Result<File, RecordFault>>,
     place: Option<RecordPlace<'a, F>>,
-    taken: Option<Result<DomainRecord<RecordFile<'a, F>>, RecordFault>>,
 }
 
 // Dropped by hand, since a derived `Drop` makes callers prove the drop of each field.
-impl<'a, F: Files<File = File>, N: Notices> Drop for FileHistory<'a, '_, F, N>
-where
-    RecordFile<'a, F>: RecordStore,
-{
+impl<F: Files<File = File>, N: Notices> Drop for FileSource<'_, '_, F, N> {
     fn drop(self) {
-        let FileHistory {
+        let FileSource {
             alloc: _,
             errors: _,
             meter: _,
             found: _,
             file: _,
             place: _,
-            taken: _,
         } = self;
     }
 }
 
-impl<'a, 'b, F: Files<File = File>, N: Notices> FileHistory<'a, 'b, F, N>
-where
-    RecordFile<'a, F>: RecordStore,
-{
-    /// A record that was found, at its place.
+impl<'a, 'b, F: Files<File = File>, N: Notices> FileSource<'a, 'b, F, N> {
+    /// The file of a record that was found, at its place.
     pub(crate) fn new(
         alloc: Global,
         errors: &'b N,
@@ -111,32 +180,14 @@ where
         found: &'b FoundRecord,
         file: Result<File, RecordFault>,
         place: RecordPlace<'a, F>,
-    ) -> FileHistory<'a, 'b, F, N> {
-        FileHistory {
+    ) -> FileSource<'a, 'b, F, N> {
+        FileSource {
             alloc,
             errors,
             meter,
             found,
             file: Some(file),
             place: Some(place),
-            taken: None,
-        }
-    }
-
-    /// The record for what comes, or why the one that was found isn't taken.
-    pub(crate) fn into_taken(self) -> Result<DomainRecord<RecordFile<'a, F>>, RecordFault> {
-        let FileHistory {
-            alloc: _,
-            errors: _,
-            meter: _,
-            found: _,
-            file: _,
-            place: _,
-            taken,
-        } = self;
-        match taken {
-            Some(taken) => taken,
-            None => Err(RecordFault::Ended),
         }
     }
 
@@ -171,7 +222,7 @@ where
     }
 
     // Opens a file that was replayed: cuts off what isn't whole, and writes its head if it has none.
-    fn open<R: Wait>(
+    fn open_whole<R: Wait>(
         &self,
         rt: &R,
         place: RecordPlace<'a, F>,
@@ -191,32 +242,22 @@ where
         }
         Ok(opened)
     }
+}
 
-    // Replays the record, and opens it for what comes.
-    fn take<R: Wait>(
+impl<'a, F: Files<File = File>, N: Notices> RecordSource<RecordFile<'a, F>>
+    for FileSource<'a, '_, F, N> {
+    fn open<R: Wait>(
         &mut self,
         rt: &R,
         domain: &mut SeatedDomain,
-    ) -> Result<DomainRecord<RecordFile<'a, F>>, RecordFault> {
+    ) -> Result<(RecordFile<'a, F>, String), RecordFault> {
         let (Some(file), Some(place)) = (self.file.take(), self.place.take()) else {
             return Err(RecordFault::Ended);
         };
         let file = file?;
         let part = self.redo_reserved(rt, &file, domain)?;
-        let opened = self.open(rt, place, file, part)?;
+        let opened = self.open_whole(rt, place, file, part)?;
         let head = String::from_str(self.alloc, self.found.head.as_str())?;
-        Ok(DomainRecord::of(self.alloc, opened, head, domain.journal())?)
-    }
-}
-
-impl<'a, F: Files<File = File>, N: Notices> History for FileHistory<'a, '_, F, N>
-where
-    RecordFile<'a, F>: RecordStore,
-{
-    fn redo<R: Wait>(&mut self, rt: &R, domain: &mut SeatedDomain) -> bool {
-        let taken = self.take(rt, domain);
-        let is_taken = taken.is_ok();
-        self.taken = Some(taken);
-        is_taken
+        Ok((opened, head))
     }
 }

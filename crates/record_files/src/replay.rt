@@ -6,7 +6,7 @@ use crate::meter::ReplayMeter;
 use crate::names::{first_name, names_of};
 use crate::notices::Notices;
 use crate::record_file::{RecordFile, RecordPlace, record_path};
-use crate::redoing::FileHistory;
+use crate::redoing::{FileSource, RecordHistory};
 use domain_core::NoMemory;
 use farm_records::RecordFault;
 use farm_service::{Service, Session};
@@ -108,7 +108,8 @@ impl<'a, F: Files<File = File>> FileReplay<'a, F> {
             meter,
             errors,
         } = outputs;
-        let mut history = FileHistory::new(self.alloc, *errors, *meter, &found, file, place);
+        let source = FileSource::new(self.alloc, *errors, *meter, &found, file, place);
+        let mut history = RecordHistory::new(self.alloc, source);
         let _ = service.enter(rt, domain, &mut history, sessions);
         match history.into_taken() {
             Ok(taken) => *record.lock(rt) = taken,

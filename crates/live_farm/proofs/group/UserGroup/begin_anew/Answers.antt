@@ -1,7 +1,8 @@
-use Rattle.std.proofs.Common.{◌≡◌, ◌++◌, ◌∙◌, List, length, take, drop, subst, sym, rules}
+use Rattle.std.proofs.Common.{◌≡◌, ◌++◌, ◌∙◌, List, false, length, take, drop, subst, sym, rules}
+use Rattle.std.specs.Prelude.{is_ok}
 use Rattle.farm_service.specs.Passes.{SessionValue}
-use Rattle.farm_service.specs.Restarts.{AreInOrder}
-use Rattle.live_farm.proofs.Members.{as_many_after, in_order_after, take_front}
+use Rattle.farm_service.specs.Restarts.{AreInOrder, AreAllOfOne}
+use Rattle.live_farm.proofs.Members.{as_many_after, if_refused, in_order_after, take_front}
 use Rattle.live_farm.proofs.group.UserGroup.begin_anew.Goals as goal
 
 pub invariant_of-self : goal.invariant_of-self
@@ -25,3 +26,12 @@ invariant_of-self g c =
           theirs);
       named = group.named;
     }
+
+pub returns-clause-not_all : goal.returns-clause-not_all
+returns-clause-not_all g c not_done =
+    let group = c.args.self.now in
+    let same : c.as_mut_slice.result.now ≡ group.sessions.items = search rules in
+    let refused : is_ok c.restart.result ≡ false = search rules in
+    subst (λ (ss : List SessionValue). ¬ AreAllOfOne group.service.now.plan ss) same
+    (if_refused c.restart.result c.as_mut_slice.result.now c.restart.new.sessions refused c.restart.ensures.err
+    c.restart.ensures.no_such.0)
