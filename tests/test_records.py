@@ -222,13 +222,9 @@ def test_hours_of_a_loop_take_seconds(folder: str) -> None:
     put(path, wrong)
     with Recorded(plan, folder, True) as live:
         assert live.ask("ann look 0") == "ann error 1 record\n"
-        assert live.end() == (
-            0,
-            [],
-            is_out(
-                path, f"line {reads[0]}: the domain doesn't answer so", "ann", "ann", f"{folder}/records/ann.2.replay"
-            ),
-        )
+        status, rest, errors = live.end()
+        why = is_out(path, f"line {reads[0]}: the domain doesn't answer so", "ann", "ann", live.path_of("ann.2.replay"))
+        assert (status, rest, [it for it in errors if "Steps are replayed" not in it]) == (0, [], why)
     # to the end of the record, and to the end of the loop's line, after which the loop goes on
     for kept, state in ((None, "booting"), (behind - 1, "running")):
         put(path, "".join(right.splitlines(keepends=True)[:kept]))
