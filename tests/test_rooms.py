@@ -125,11 +125,11 @@ def test_reserve_answers_commands(folder: str) -> None:
             assert re.fullmatch(r"bob look 0 (running|idle) overruns( \d+){4}\n", told) is not None, told
             looks += 1
             assert looks <= MIB // LOOK_BYTES
-        assert (looks > 0, told) == (True, f"bob error {farm.count} full\n")
+        assert (looks > 0, told) == (True, f"bob error {farm.counts['bob']} full\n")
         row = farm.row("bob")
         size = os.path.getsize(f"{folder}/records/bob.replay")
         for line in ("look 0", "config " + "0200" * 8, "look 1", "write 0 " + "05" * 100, "look 0"):
-            assert (line, farm.ask(f"bob {line}")) == (line, f"bob error {farm.count} full\n")
+            assert (line, farm.ask(f"bob {line}")) == (line, f"bob error {farm.counts['bob']} full\n")
         assert (farm.row("bob")[1:], os.path.getsize(f"{folder}/records/bob.replay")) == (row[1:], size)
         check_bounds(row, MIB, 0)
         assert farm.ask("bob rest") == "bob rest full\n"
@@ -237,7 +237,7 @@ def test_flood_of_commands_is_bounded() -> None:
         row = farm.row("ann")
         check_bounds(row, MIB, farm.resident() - before)
         for _ in range(200):
-            assert farm.ask("ann config " + "04" * 500) == f"ann error {farm.count} full\n"
+            assert farm.ask("ann config " + "04" * 500) == f"ann error {farm.counts['ann']} full\n"
         assert farm.row("ann")[1:] == row[1:]
         assert (len(farm.noted()), farm.noted()[0][:15]) == (1, "ann note rests ")
         check_bounds(row, MIB, farm.resident() - before)
@@ -351,7 +351,7 @@ def test_out_of_memory_is_the_users_who_meets_it() -> None:
         for name, answer in (("ann", LOOKED), *others.items()):
             assert farm.ask(f"{name} look 0") == answer
         bound_memory(farm, SPARE)
-        assert farm.ask("ann config " + "04" * 524_000) == f"ann error {farm.count} memory\n"
+        assert farm.ask("ann config " + "04" * 524_000) == f"ann error {farm.counts['ann']} memory\n"
         assert "rests" in farm.row("ann").words
         for _ in range(20):
             for name, answer in others.items():

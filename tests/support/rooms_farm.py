@@ -1,6 +1,7 @@
 """A running farm whose domains have rooms, for those that try and measure these: what each user is answered by itself, notes
 apart, and what the operator is told."""
 
+import collections
 import queue
 import re
 import time
@@ -43,7 +44,7 @@ class Farm(Live):
 
     def __init__(self, plan: str, *more: str, begun: Callable[[], None] | None = None) -> None:
         names = re.findall(r'name = "([a-z0-9-]+)"', plan)
-        self.users, self.count = names, 0
+        self.users, self.counts = names, collections.Counter[str]()
         self.notes: list[str] = []
         self.boxes: dict[str, Lines] = {name: queue.Queue() for name in (*names, OPERATOR)}
         super().__init__(plan, more, ENVIRONMENT, begun)
@@ -61,8 +62,9 @@ class Farm(Live):
             box.put(None)
 
     def say(self, text: str | bytes) -> None:
-        """Sends lines, whose number is that of this run."""
-        self.count += text.count("\n") if isinstance(text, str) else text.count(b"\n")
+        """Sends lines, and counts those of each user."""
+        lines = (text if isinstance(text, str) else text.decode()).splitlines()
+        self.counts.update(OPERATOR if it.startswith(OPERATOR) else it.split(" ")[0] for it in lines)
         super().say(text)
 
     def hear(self, name: str = OPERATOR) -> str:
