@@ -131,7 +131,7 @@ impl<'a> Operator<'a> {
         Ok(Some(line_of(alloc, name, answered, status, room, station)?))
     }
 
-    // How it is with a domain. One that is replayed has done so many Steps, and its lock isn't waited for.
+    // How it is with a domain. One that is replayed has done that many Steps, and its lock isn't waited for.
     fn status<R: Wait>(&self, rt: &R, domain: u8, station: &Station<'_>) -> Option<DomainStatus> {
         if !station.meter.is_under_way() {
             return self.service.status(rt, domain).ok();

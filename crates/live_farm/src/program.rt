@@ -227,7 +227,7 @@ fn close<R: Wait>(
     }
 }
 
-// Bounds the events of each domain, and holds workers back from those of which something is to be replayed.
+// Bounds the events of each domain, and holds workers back from each whose record is to be replayed.
 fn bound_domains<R: Wait, K, P: Replay<K>>(
     rt: &R,
     service: &Service,
