@@ -25,7 +25,7 @@ _nadzsumek_options() {
     class\ add) echo '--students' ;;
     class\ change) echo '--nodes --hosts' ;;
     class\ finish) echo '--remove' ;;
-    class\ check) echo '--csv --html' ;;
+    class\ check) echo '--csv --html --submitted' ;;
     class\ web) echo '--listen --address --cert --key' ;;
     class\ exercises) echo '--close' ;;
     class\ submitted) echo '--csv' ;;

@@ -45,6 +45,10 @@ again:  ldlp first
 ENDLESS = "        ajw 4\nloop:   j loop\n"
 
 
+# A tile of the wall: what is the matter, whose it is, and what it shows.
+TILE = re.compile(r'<a class="tile (\w+)" id="([^"]*)" href="#[^"]*">(.*?)</a>', re.DOTALL)
+
+
 class Page(html.parser.HTMLParser):
     """A page's texts, cell by cell, and all that it would fetch."""
 
@@ -346,20 +350,23 @@ def test_the_wall_is_no_event() -> None:
         page = f"{it.room.name}/wall.html"
         done = it.call("wall", "--once", it.folder, page)
         assert (done.returncode, done.stdout, done.stderr) == (0, "", "")
-        wall = Page(page)
-        assert wall.fetched == []
-        assert wall.rows[0] == ["student", "now", "nodes", "room", "lines", "last fault"]
-        rows = {row[0].split("\n")[0]: row for row in wall.rows[1:]}
-        assert [*rows] == ["Student 1", "Student 2", "Student 3"]
-        for name, now, nodes, fault in (
-            ("Student 1", "quiet", "node 0 has ended: no process is left.\nnode 1 waits for a control " "byte.", "-"),
-            ("Student 2", "quiet", "node 0 halted by fault 1", "node 0: 1"),
+        # nothing but the places of the page itself is named there
+        assert [where for where in Page(page).fetched if not str(where).startswith("#")] == []
+        tiles = {user: (kind, text) for kind, user, text in TILE.findall(text_of(page))}
+        # who has halted by a fault comes first
+        assert [*tiles] == ["student-2", "student-1", "student-3"]
+        for name, kind, *texts in (
+            ("student-1", "quiet", "<b>Student 1</b><span>rests</span>", "node 0 has ended: no process is left."),
+            ("student-2", "fault", "<b>Student 2</b><span>fault 1</span>", "node 0 halted by fault 1"),
+            ("student-3", "fresh", "<b>Student 3</b><span>nothing yet</span>"),
         ):
-            assert (name, rows[name][1], nodes in rows[name][2], rows[name][5]) == (name, now, True, fault)
-        assert (
-            rows["Student 3"][2].strip() in ("nothing was done yet", "")
-            or "node 0 waits for a control byte" in rows["Student 3"][2]
-        )
+            assert (name, tiles[name][0], [it for it in texts if it not in tiles[name][1]]) == (name, kind, [])
+        # a node that nobody has used isn't told of
+        assert "node 1" not in text_of(page)
+        done = it.call("wall", "--once", it.folder)
+        assert (done.returncode, done.stderr) == (0, "")
+        assert done.stdout.splitlines()[0].endswith("  3 students: 1 fault, 1 quiet, 1 fresh")
+        assert [line for line in done.stdout.splitlines() if line.startswith("Student ")] == ["Student 2", "Student 1", "Student 3"]
 
         with subprocess.Popen(
             [f"{TOP}/class", "wall", "--seconds", "1", it.folder, page],
@@ -382,7 +389,7 @@ def test_the_wall_is_no_event() -> None:
         assert seen() == before
         it.must("stop")
         assert it.call("wall", "--once", it.folder, page).returncode == 0
-        assert [row[1] for row in Page(page).rows[1:]] == ["off"] * 3
+        assert sorted(told for told, _, _ in TILE.findall(text_of(page))) == ["fault", "off", "off"]
         done = it.call("wall", "--once", it.folder, f"{it.room.name}/no/wall.html")
         assert (done.returncode, done.stderr) == (
             1,

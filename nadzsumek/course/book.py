@@ -188,6 +188,17 @@ class Book:
                     self.base.executemany(f"UPDATE OR REPLACE {table} SET name = ? WHERE name = ?", pairs)
 
 
+def copy_of(course: str, path: str) -> tuple[int, int]:
+    """Copies the file as it is at a moment; the time and the size that it had before."""
+    it = os.lstat(os.path.join(course, BOOK))
+    try:
+        with Book(course) as book, contextlib.closing(sqlite3.connect(path)) as copy:
+            book.base.backup(copy)
+    except sqlite3.Error as error:
+        raise Refused(f"{os.path.join(course, BOOK)} can't be copied: {error}") from None
+    return it.st_mtime_ns, it.st_size
+
+
 def follow_names(course: str) -> None:
     """Does so in a class that has such a file. It writes nothing if all names are as they should be."""
     if os.path.lexists(os.path.join(course, BOOK)):

@@ -308,8 +308,10 @@ def rename(course: str, old: str, line: str) -> int:
         rename_page(change, before, user)
         path = write_sheet(change, person, part, farm)
         status = change.carry_out()
+        why: list[str] = []
         if status == 0:
-            follow_names(change.course)
+            all_of(why, follow_names, change.course)
+        say_all([f"note: {it}. What was handed in gets the name by the next order" for it in why])
         say_all([f"note: {person} is the user {user}, without {' and '.join(left)}"] if left else [])
         say_all([f"{before} is {user} now, and so are the records; the sheet is {shown(course, path)}"])
     return status

@@ -122,7 +122,7 @@ def on_screen(tiles: list[Tile], head: str, width: int, height: int, has_colors:
     shown = min(rows, (height - 1) // tall)
     size = (width + 1) // columns - 1
     hidden = len(tiles) - shown * columns
-    lines = [fitted(head + (f" ({hidden} more don't fit)" if hidden > 0 else ""), width)]
+    lines = [fitted((f"({hidden} more don't fit) " if hidden > 0 else "") + head, width)]
     for at in range(0, shown * columns, columns):
         parts = [tile_lines(it, size, tall, has_colors) for it in tiles[at : at + columns]]
         lines += [" ".join(line) for line in zip(*parts)]
