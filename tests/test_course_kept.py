@@ -17,7 +17,7 @@ from collections.abc import Callable, Iterator
 import pytest
 from nadzsumek import Farm, FarmError
 from support.courses import child_of
-from support.lessons import Lesson
+from support.lessons import Lesson, found_in
 from support.pages import Pages
 from support.serving_trials import SECONDS
 from support.trials import TOP, put, text_of
@@ -154,8 +154,7 @@ def test_kills_of_the_pages(count: int | None) -> None:
             for it in students.values():
                 it.end()
         assert all(it.answered for it in students.values())
-        rows = Lesson.kept(pages, ROWS)  # type: ignore[arg-type]
-        check_kept(pages.folder, students, rows)
+        check_kept(pages.folder, students, found_in(pages.folder, ROWS))
 
 
 def test_many_at_once() -> None:

@@ -18,6 +18,8 @@ from .telling import REFUSED
 
 # How long an answer may take at all, how many questions of one student may wait, and how many are answered at the same time.
 MOST_SECONDS, MOST_WAITING, MOST_AT_ONCE = 300, 8, 2
+# What is said where it isn't known.
+KEPT = ". submitted says whether it was kept"
 CHILD = f"import sys; sys.path.insert(0, {TOP!r}); from nadzsumek.course.handing import main; main()"
 Answer = dict[str, Any]
 
@@ -53,8 +55,28 @@ class Judge:
     async def answer(self, user: str, verb: str, at: float, words: list[str]) -> Answer | None:
         """The answer of a process."""
         asked = json.dumps({"course": self.course, "user": user, "verb": verb, "at": at, "words": words}).encode()
+        try:
+            child = await self.begun()
+        except OSError as error:
+            return {REFUSED: f"the machine of the class can't do it ({error.strerror}), so nothing was kept"}
+        self.children.add(child)
+        try:
+            told, _ = await asyncio.wait_for(child.communicate(asked), MOST_SECONDS)
+            answered = json.loads(told)
+            return answered if isinstance(answered, dict) else None
+        except asyncio.TimeoutError:
+            return {REFUSED: f"it took more than {MOST_SECONDS} seconds{KEPT}"}
+        except ValueError:
+            return None if self.has_ended else {REFUSED: f"it took too much of the machine{KEPT}"}
+        finally:
+            end(child)
+            self.children.discard(child)
+
+    @staticmethod
+    async def begun() -> asyncio.subprocess.Process:
+        """A process that answers a question, and ends when this one does."""
         pipe, parent = asyncio.subprocess.PIPE, os.getpid()
-        child = await asyncio.create_subprocess_exec(
+        return await asyncio.create_subprocess_exec(
             *[sys.executable, "-S", "-E", "-P", "-B", "-c", CHILD],
             stdin=pipe,
             stdout=pipe,
@@ -62,22 +84,6 @@ class Judge:
             start_new_session=True,
             preexec_fn=lambda: end_with(parent),
         )
-        self.children.add(child)
-        try:
-            told, _ = await asyncio.wait_for(child.communicate(asked), MOST_SECONDS)
-            answered = json.loads(told)
-            return answered if isinstance(answered, dict) else None
-        except asyncio.TimeoutError:
-            return {REFUSED: f"it took more than {MOST_SECONDS} seconds. submitted says whether it was kept"}
-        except ValueError:
-            return (
-                None
-                if self.has_ended
-                else {REFUSED: "it took too much of the machine. submitted says whether it was kept"}
-            )
-        finally:
-            end(child)
-            self.children.discard(child)
 
     def end(self) -> None:
         """Answers nothing more."""

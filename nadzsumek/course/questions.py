@@ -76,9 +76,8 @@ class Course:
         if told is None:
             return UNANSWERED + shown(line)
         why = told.get(REFUSED)
-        return (
-            f"{verb} {REFUSED} {' '.join(str(why).split())}".encode() if why else f"{verb} {json.dumps(told)}".encode()
-        )
+        text = f"{verb} {REFUSED} {' '.join(str(why).split())}" if why else f"{verb} {json.dumps(told)}"
+        return text.encode(errors="backslashreplace")
 
     async def end(self) -> None:
         """Ends what is being answered: its lines are told as not answered."""

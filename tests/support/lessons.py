@@ -2,6 +2,7 @@
 
 from __future__ import annotations
 
+import contextlib
 import json
 import os
 import shutil
@@ -63,5 +64,10 @@ class Lesson(Course):
 
     def kept(self, query: str = "SELECT name, exercise, points, text FROM submission ORDER BY number") -> list[Any]:
         """What a query of the teacher's finds in the file of the class."""
-        with sqlite3.connect(f"{self.folder}/pages.sqlite") as base:
-            return base.execute(query).fetchall()
+        return found_in(self.folder, query)
+
+
+def found_in(course: str, query: str) -> list[Any]:
+    """The same in the file of any class."""
+    with contextlib.closing(sqlite3.connect(f"{course}/pages.sqlite")) as base:
+        return base.execute(query).fetchall()
