@@ -20,11 +20,16 @@ _MODULES = {
     **dict.fromkeys(("Farm", "serve"), "farm"),
     "load_ipython_extension": "notebook",
     **dict.fromkeys(("FarmError", "NoFarm", "NotAnswered", "Refused"), "failures"),
-    **dict.fromkeys(("Loaded", "Look", "Note", "Rest", "State", "Why"), "results"),
+    **dict.fromkeys(
+        ("Checked", "Exercise", "HandedIn", "Loaded", "Look", "Note", "Rest", "State", "Tested", "Why"), "results"
+    ),
 }
 __all__ = [
+    "Checked",
+    "Exercise",
     "Farm",
     "FarmError",
+    "HandedIn",
     "Loaded",
     "Look",
     "NoFarm",
@@ -33,6 +38,7 @@ __all__ = [
     "Refused",
     "Rest",
     "State",
+    "Tested",
     "Why",
     "load_ipython_extension",
     "serve",

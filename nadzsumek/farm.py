@@ -123,9 +123,9 @@ class Speaking(Verbs):
     def ports(self) -> Ports | None:
         return ports_of(self.folder, self.name)
 
-    def late(self, pending: Pending) -> NotAnswered:
-        """What is raised if no answer has come in time."""
-        return NotAnswered(pending.line, f"no answer has come in {self.seconds:g} seconds")
+    def late(self, pending: Pending, seconds: float) -> NotAnswered:
+        """What is raised if no answer has come in this time."""
+        return NotAnswered(pending.line, f"no answer has come in {seconds:g} seconds")
 
 
 class User(Speaking):
@@ -161,21 +161,22 @@ class User(Speaking):
 
     def do(self, asked: Question) -> Any:
         with self.turn:
-            answers = [it for piece in pieces(asked.lines) for it in self.exchange(piece, asked.strict)]
+            answers = [it for piece in pieces(asked.lines) for it in self.exchange(piece, asked)]
         return asked.result(answers)
 
-    def exchange(self, lines: list[str], strict: bool) -> list[list[str]]:
-        """Sends lines, and returns the answer to each."""
+    def exchange(self, lines: list[str], asked: Question) -> list[list[str]]:
+        """Sends some lines of a question, and returns the answer to each."""
+        seconds = max(self.seconds, asked.seconds)
         waiting = [self.dialogue.ask(line) for line in lines]
         try:
             self.send_all(b"".join(it.message() for it in waiting))
             for it in waiting:
-                self.await_answer(it)
-                if strict:
+                self.await_answer(it, seconds)
+                if asked.strict:
                     check(it.line, it.answers[0])
             return [it.answers for it in waiting]
         except TimeoutError:
-            raise self.late(next(it for it in waiting if not it.is_whole)) from None
+            raise self.late(next(it for it in waiting if not it.is_whole), seconds) from None
         except OSError:
             self.hear_rest()
             raise self.dialogue.ended() from None
@@ -192,8 +193,8 @@ class User(Speaking):
             self.close()
             raise
 
-    def await_answer(self, pending: Pending) -> None:
-        end = time.monotonic() + self.seconds
+    def await_answer(self, pending: Pending, seconds: float) -> None:
+        end = time.monotonic() + seconds
         while not pending.is_whole:
             self.stream.settimeout(max(0.001, end - time.monotonic()))
             piece = self.stream.recv(PIECE)
@@ -201,7 +202,7 @@ class User(Speaking):
                 raise self.dialogue.ended()
             self.dialogue.feed(piece)
             if time.monotonic() > end and not pending.is_whole:
-                raise self.late(pending)
+                raise self.late(pending, seconds)
 
     def load(self, host: int, program: Program) -> Any:
         """Boots a program: the file of its text, an example's name, or bytes of code. A `Loaded`."""
@@ -260,11 +261,11 @@ class AsyncUser(Speaking):
         async with self.turn:
             answers: list[list[str]] = []
             for piece in pieces(asked.lines):
-                answers += await self.exchange(piece, asked.strict)
+                answers += await self.exchange(piece, asked)
         return asked.result(answers)
 
-    async def exchange(self, lines: list[str], strict: bool) -> list[list[str]]:
-        """Sends lines, and returns the answer to each."""
+    async def exchange(self, lines: list[str], asked: Question) -> list[list[str]]:
+        """Sends some lines of a question, and returns the answer to each."""
         waiting = [(self.dialogue.ask(line), asyncio.Event()) for line in lines]
         for pending, is_heard in waiting:
             pending.tell = is_heard.set
@@ -272,8 +273,8 @@ class AsyncUser(Speaking):
             self.writer.write(b"".join(it.message() for it, _ in waiting))
             await self.writer.drain()
             for pending, is_heard in waiting:
-                await self.await_answer(pending, is_heard)
-                if strict:
+                await self.await_answer(pending, is_heard, max(self.seconds, asked.seconds))
+                if asked.strict:
                     check(pending.line, pending.answers[0])
             return [it.answers for it, _ in waiting]
         except OSError:
@@ -283,12 +284,12 @@ class AsyncUser(Speaking):
             for pending, _ in waiting:
                 self.dialogue.forget(pending)
 
-    async def await_answer(self, pending: Pending, is_heard: asyncio.Event) -> None:
+    async def await_answer(self, pending: Pending, is_heard: asyncio.Event, seconds: float) -> None:
         try:
             if not self.has_ended:
-                await asyncio.wait_for(is_heard.wait(), self.seconds)
+                await asyncio.wait_for(is_heard.wait(), seconds)
         except TimeoutError:
-            raise self.late(pending) from None
+            raise self.late(pending, seconds) from None
         if not pending.is_whole:
             raise self.dialogue.ended()
 

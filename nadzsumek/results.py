@@ -8,6 +8,7 @@ import re
 from collections.abc import Callable
 from typing import Any
 
+from nadzsumek.course import telling
 from nadzsumek.serving.answers import bytes_taken, meaning, refusal, shortfall
 
 from .failures import NotAnswered, Refused
@@ -73,6 +74,66 @@ class Note:
     room: int | None = None
 
 
+@dataclasses.dataclass(frozen=True)
+class Tested:
+    """What came of a test of an exercise: `ok`, `wrong` or `too long`; what was wrong, the lines of the exercise that were sent last
+    before it, and why the nodes did no more."""
+
+    name: str
+    result: str
+    remark: str
+    sent: tuple[str, ...]
+    why: tuple[str, ...]
+
+
+@dataclasses.dataclass(frozen=True)
+class Checked:
+    """A program that was tried in an exercise: its points of those that there are, and each test; none if it can't be tried, and
+    `remark` says why. Of one that was handed in its number, the time in seconds since 1970, and the SHA-256 of its text.
+    """
+
+    exercise: str
+    title: str
+    points: int
+    of: int
+    tests: tuple[Tested, ...]
+    remark: str
+    number: int | None = None
+    at: float | None = None
+    hash: str | None = None
+
+    def __str__(self) -> str:
+        return "\n".join(telling.of_tests(plain(self)))
+
+
+@dataclasses.dataclass(frozen=True)
+class HandedIn:
+    """A program that was handed in; with its text if that was asked for."""
+
+    number: int
+    exercise: str
+    at: float
+    kind: str
+    hash: str
+    points: int
+    of: int
+    remark: str
+    text: str | None = None
+
+
+@dataclasses.dataclass(frozen=True)
+class Exercise:
+    """An exercise of the class: what it asks, the names of its tests, when it closes, if it does, and what was handed in last."""
+
+    name: str
+    title: str
+    task: str
+    tests: tuple[str, ...]
+    closes: float | None
+    closed: bool
+    submitted: HandedIn | None
+
+
 def note_of(text: str) -> Note:
     """A note as it came: `note rests USED ROOM` of the user's machine or another form of it, or `note: TEXT` of the farm."""
     rests = re.fullmatch(r"note rests (?:records )?(\d+) (\d+)", text)
@@ -113,6 +174,35 @@ def why_of(answers: list[str]) -> Why:
     return Why(int(first.split()[1]), tuple(lines[:-1]))
 
 
+def tested_of(told: dict[str, Any]) -> Tested:
+    return Tested(told["name"], told["result"], told["remark"], (*told["sent"],), (*told["why"],))
+
+
+def checked_of(told: dict[str, Any]) -> Checked:
+    """A program that was tried, of the object in an answer."""
+    fields: dict[str, Any] = {**told, "tests": tuple(tested_of(it) for it in told["tests"])}
+    return Checked(**fields)
+
+
+def handed_in_of(told: dict[str, Any]) -> tuple[HandedIn, ...]:
+    return tuple(HandedIn(**it, text=told.get("text")) for it in told["submissions"])
+
+
+def exercise_of(told: dict[str, Any]) -> Exercise:
+    last = told["submitted"]
+    fields: dict[str, Any] = {**told, "tests": (*told["tests"],), "submitted": HandedIn(**last) if last else None}
+    return Exercise(**fields)
+
+
+# What the object in an answer about exercises says.
+OF_COURSE: dict[str, Callable[[dict[str, Any]], object]] = {
+    "exercises": lambda told: tuple(exercise_of(it) for it in told["exercises"]),
+    "check": checked_of,
+    "submit": checked_of,
+    "submitted": handed_in_of,
+}
+
+
 def config_of(words: list[str]) -> bytes:
     return bytes.fromhex("".join(it for it in words if it != "-"))
 
@@ -134,6 +224,8 @@ OF_WORDS: dict[str, Callable[[list[str]], object]] = {
 
 def result_of(answers: list[str]) -> Any:
     """The value of the lines of an answer that refuses nothing; none for verbs of which no value is known."""
+    if found := telling.read(answers[0]):
+        return OF_COURSE[found[0]](found[1])
     words = answers[0].split(" ")
     if words[0] == "why":
         return why_of(answers)
@@ -146,4 +238,6 @@ def plain(value: Any) -> Any:
         return {name: plain(it) for name, it in vars(value).items()}
     if isinstance(value, enum.Enum):
         return value.value
+    if isinstance(value, tuple):
+        return [plain(it) for it in value]
     return value.hex() if isinstance(value, bytes) else value

@@ -8,6 +8,7 @@ import time
 from collections.abc import Callable, Iterable
 from typing import Any, TypeAlias
 
+from nadzsumek.course import telling
 from nadzsumek.mistakes.verbs import Wrong
 from nadzsumek.serving.orders import lines_of, loading
 from nadzsumek.serving.texts import quoted
@@ -21,18 +22,19 @@ MOST_BOOT = 255
 COLLECT_SECONDS = 10
 FIRST_PAUSE, MOST_PAUSE = 0.005, 0.2
 
-
 # The file of a program's text, an example's name, or bytes of code.
 Program: TypeAlias = str | os.PathLike[str] | bytes | bytearray | memoryview
 
 
 class Question:
-    """Lines that are asked one behind another, and what all their answers say. Of a strict one a refused line is raised."""
+    """Lines that are asked one behind another, what all their answers say, and how many seconds each may take at least. Of a strict
+    one a refused line is raised."""
 
     def __init__(
         self, lines: list[str], result: Callable[[list[list[str]]], Any] | None = None, strict: bool = True
     ) -> None:
         self.lines, self.result, self.strict = lines, result or (lambda answers: result_of(answers[-1])), strict
+        self.seconds = telling.SECONDS if any(it.split(" ", 1)[0] in telling.VERBS for it in lines) else 0
 
 
 def question(line: str) -> Question:
@@ -153,6 +155,22 @@ class Verbs:
     def why(self, node: int | None = None) -> Any:
         """Why each node waits, has halted or runs on, or this one: a `Why`."""
         return self.do(question("why" if node is None else f"why {node:d}"))
+
+    def exercises(self) -> Any:
+        """The exercises of the user's class, each an `Exercise`."""
+        return self.do(question("exercises"))
+
+    def check(self, exercise: str, file: str | os.PathLike[str]) -> Any:
+        """Tries the program in a file in an exercise, on a machine of its own: a `Checked`."""
+        return self.do(question(f"check {exercise} {os.fspath(file)}"))
+
+    def submit(self, exercise: str, file: str | os.PathLike[str]) -> Any:
+        """The same, and hands it in: when this returns it is kept."""
+        return self.do(question(f"submit {exercise} {os.fspath(file)}"))
+
+    def submitted(self, number: int | None = None) -> Any:
+        """What the user has handed in, the oldest first, each a `HandedIn`; or the one with this number, with its text."""
+        return self.do(question("submitted" if number is None else f"submitted {number:d}"))
 
     def restart(self) -> Any:
         """Makes the user's machine as it was opened, if it is his alone."""

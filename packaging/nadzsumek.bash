@@ -25,8 +25,9 @@ _nadzsumek_options() {
     class\ add) echo '--students' ;;
     class\ change) echo '--nodes --hosts' ;;
     class\ finish) echo '--remove' ;;
-    class\ check) echo '--csv --html' ;;
+    class\ check) echo '--csv --html --submitted' ;;
     class\ web) echo '--listen --address --cert --key' ;;
+    class\ exercises) echo '--close' ;;
     class\ submitted) echo '--csv' ;;
     class\ marks) echo '--csv' ;;
     class\ wall) echo '--seconds --once' ;;
@@ -59,6 +60,7 @@ _nadzsumek_values() {
     class\ change) echo '--nodes --hosts' ;;
     class\ check) echo '--csv --html' ;;
     class\ web) echo '--listen --address --cert --key' ;;
+    class\ exercises) echo '--close' ;;
     class\ submitted) echo '--csv' ;;
     class\ marks) echo '--csv' ;;
     class\ wall) echo '--seconds' ;;

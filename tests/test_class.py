@@ -585,7 +585,7 @@ REFUSED = [
     ("--students nobody.txt --nodes 1 one", "{room}/nobody.txt names nobody: write one name a line"),
     (
         "--students no-letter.txt --nodes 1 one",
-        "no-letter.txt, line 1: '周' makes no user's name: write it with a to z and " "digits",
+        "no-letter.txt, line 1: '周' makes no user's name: write it with a to z and digits, or one before it: li = 周",
     ),
     (
         "--students good.txt --nodes 1 made",

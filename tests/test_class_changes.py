@@ -351,7 +351,7 @@ def test_wrong_changes_change_nothing() -> None:
                 ("add", "operator", "周", "Student 1", "Bob", "bob"),
                 [
                     "'operator' would be the user operator, and that name is reserved: add something to it",
-                    "'周' makes no user's name: write it with a to z and digits",
+                    "'周' makes no user's name: write it with a to z and digits, or one before it: li = 周",
                     "Student 1 is the user student-1, who is there already: add something to the name",
                     "bob is the user bob, as Bob is: add something to one",
                 ],

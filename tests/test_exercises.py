@@ -4,6 +4,7 @@ event of any machine."""
 import csv
 import html.parser
 import os
+import re
 import shutil
 import signal
 import subprocess
@@ -11,6 +12,8 @@ import tempfile
 import time
 from typing import Any
 
+from nadzsumek.course.given import exercises_in, task_of
+from nadzsumek.serving.exercises import exercise_in
 from support.courses import Course
 from support.live_lines import SECONDS
 from support.serving_trials import hears_ctrl_c
@@ -40,6 +43,10 @@ again:  ldlp first
         j again
 """
 ENDLESS = "        ajw 4\nloop:   j loop\n"
+
+
+# A tile of the wall: what is the matter, whose it is, and what it shows.
+TILE = re.compile(r'<a class="tile (\w+)" id="([^"]*)" href="#[^"]*">(.*?)</a>', re.DOTALL)
 
 
 class Page(html.parser.HTMLParser):
@@ -294,11 +301,11 @@ def test_unfit_exercises_are_refused() -> None:
 def test_tables_are_safe() -> None:
     """A page shows what came and why, fetches nothing, and takes no name or remark for its own marks; no cell of a spreadsheet is a
     formula. The machines of the class notice nothing of it."""
-    with Checked(["=1+1 <b>Ada</b>", "Bob"]) as it:
+    with Checked(["ada = =1+1 <b>Ada</b>", "Bob"]) as it:
         assert it.course.call("start", it.folder).returncode == 0
         try:
             before = it.course.call("status", it.folder).stdout.partition("\n\n")[0]
-            it.write("1 1 b Ada b.s", "        ldc <b>\n")
+            it.write("ada.s", "        ldc <b>\n")
             it.write("bob.s", "        ajw 4\n        mint\n        ldc '='\n        outbyte\n        stopp\n")
             exercise = it.exercise(
                 "exercise <b>Greet</b>\nbefore\njoin 0 1\nload 0 student.s\ntest a <i>greeting</i>\nexpect 0 "
@@ -312,7 +319,7 @@ def test_tables_are_safe() -> None:
         page = Page(f"{it.room}/page.html")
         assert page.fetched == []
         assert page.rows[0] == ["student", "points", "steps", "a <i>greeting</i>"]
-        assert [row[0].split("\n") for row in page.rows[1:]] == [["=1+1 <b>Ada</b>", "1 1 b Ada b.s"], ["Bob", "bob.s"]]
+        assert [row[0].split("\n") for row in page.rows[1:]] == [["=1+1 <b>Ada</b>", "ada.s"], ["Bob", "bob.s"]]
         cell = page.rows[2][3].split("\n")
         assert (cell[0], cell[1]) == ("wrong", 'line 6: "hello" is expected, and "=" came')
         assert "node 0 has ended" in page.rows[2][3]
@@ -343,20 +350,23 @@ def test_the_wall_is_no_event() -> None:
         page = f"{it.room.name}/wall.html"
         done = it.call("wall", "--once", it.folder, page)
         assert (done.returncode, done.stdout, done.stderr) == (0, "", "")
-        wall = Page(page)
-        assert wall.fetched == []
-        assert wall.rows[0] == ["student", "now", "nodes", "room", "lines", "last fault"]
-        rows = {row[0].split("\n")[0]: row for row in wall.rows[1:]}
-        assert [*rows] == ["Student 1", "Student 2", "Student 3"]
-        for name, now, nodes, fault in (
-            ("Student 1", "quiet", "node 0 has ended: no process is left.\nnode 1 waits for a control " "byte.", "-"),
-            ("Student 2", "quiet", "node 0 halted by fault 1", "node 0: 1"),
+        # nothing but the places of the page itself is named there
+        assert [where for where in Page(page).fetched if not str(where).startswith("#")] == []
+        tiles = {user: (kind, text) for kind, user, text in TILE.findall(text_of(page))}
+        # who has halted by a fault comes first
+        assert [*tiles] == ["student-2", "student-1", "student-3"]
+        for name, kind, *texts in (
+            ("student-1", "quiet", "<b>Student 1</b><span>rests</span>", "node 0 has ended: no process is left."),
+            ("student-2", "fault", "<b>Student 2</b><span>fault 1</span>", "node 0 halted by fault 1"),
+            ("student-3", "fresh", "<b>Student 3</b><span>nothing yet</span>"),
         ):
-            assert (name, rows[name][1], nodes in rows[name][2], rows[name][5]) == (name, now, True, fault)
-        assert (
-            rows["Student 3"][2].strip() in ("nothing was done yet", "")
-            or "node 0 waits for a control byte" in rows["Student 3"][2]
-        )
+            assert (name, tiles[name][0], [it for it in texts if it not in tiles[name][1]]) == (name, kind, [])
+        # a node that nobody has used isn't told of
+        assert "node 1" not in text_of(page)
+        done = it.call("wall", "--once", it.folder)
+        assert (done.returncode, done.stderr) == (0, "")
+        assert done.stdout.splitlines()[0].endswith("  3 students: 1 fault, 1 quiet, 1 fresh")
+        assert [line for line in done.stdout.splitlines() if line.startswith("Student ")] == ["Student 2", "Student 1", "Student 3"]
 
         with subprocess.Popen(
             [f"{TOP}/class", "wall", "--seconds", "1", it.folder, page],
@@ -379,7 +389,7 @@ def test_the_wall_is_no_event() -> None:
         assert seen() == before
         it.must("stop")
         assert it.call("wall", "--once", it.folder, page).returncode == 0
-        assert [row[1] for row in Page(page).rows[1:]] == ["off"] * 3
+        assert sorted(told for told, _, _ in TILE.findall(text_of(page))) == ["fault", "off", "off"]
         done = it.call("wall", "--once", it.folder, f"{it.room.name}/no/wall.html")
         assert (done.returncode, done.stderr) == (
             1,
@@ -387,12 +397,28 @@ def test_the_wall_is_no_event() -> None:
         )
 
 
+def test_guides_quote_the_exercises() -> None:
+    """Each folder of the examples stands in one guide, with its task word by word; and it has two wrong programs at least, unless it
+    is the one of the guide for teachers."""
+    pages = [text_of(f"{TOP}/docs/guides/{it}") for it in ("PROGRAMMING.md", "OCCAM_EXERCISES.md")]
+    folders = {
+        name: place for name, place in exercises_in(EXERCISES).items() if os.path.isdir(place) and name != "total"
+    }
+    for name, place in folders.items():
+        rows = [it for page in pages for it in re.findall(rf"^\| `{name}` \| (.*?) \| .*\|$", page, re.MULTILINE)]
+        assert (name, rows) == (name, [task_of(place)])
+        assert len([it for it in os.listdir(place) if it.startswith("wrong-")]) >= 2, name
+    nodes = {name for name, place in folders.items() if exercise_in(place).machine.nodes > 1}
+    assembly = {name for name, place in folders.items() if os.path.exists(f"{place}/solution.s")}
+    assert (len(assembly), len(nodes), len({*folders} - nodes - assembly), nodes & assembly) == (10, 6, 9, set())
+
+
 def test_examples_find_their_wrong_programs() -> None:
     """Each exercise of the examples has a solution with all points, and finds each of its wrong programs; one that is planted among
     the solutions is found too."""
     done = run_text([f"{TOP}/class", "exercises", EXERCISES], timeout=300)
     assert (done.returncode, done.stderr) == (0, ""), done.stdout
-    assert done.stdout.endswith(" programs tried, 0 wrong\n") and done.stdout.startswith("13 exercises, ")
+    assert done.stdout.endswith(" programs tried, 0 wrong\n") and done.stdout.startswith("28 exercises, ")
     with tempfile.TemporaryDirectory() as room:
         shutil.copytree(f"{EXERCISES}/twice", f"{room}/twice")
         shutil.copy(f"{room}/twice/wrong-once.occ", f"{room}/twice/solution-too.occ")

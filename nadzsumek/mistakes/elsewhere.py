@@ -71,7 +71,7 @@ rm mkdir touch chmod man which tmux screen git farm lab live serve connect class
 )
 # A verb that does what the word asks for elsewhere.
 VERBS = {
-    "load": "run exec execute start go upload download flash compile assemble asm install program launch",
+    "load": "run exec execute start go download flash compile assemble asm install program launch",
     "collect": "read recv receive get fetch input output show result results listen take",
     "send": "put print transmit say tx type enter",
     "join": "link wire attach plug route bind pair",
@@ -79,6 +79,10 @@ VERBS = {
     "restart": "reboot init initialise initialize new fresh erase wipe format undo",
     "look": "status state stat ps top jobs info inspect examine regs registers node nodes",
     "why": "debug explain trace error errors what where problem wtf",
+    "exercises": "exercise tasks task assignment assignments homework lessons",
+    "check": "try verify grade mark judge",
+    "submit": "handin hand-in hand deliver upload turnin",
+    "submitted": "submissions handed marks points grades score",
     "ports": "port switch connections topology network map wiring host hosts links",
     "peek": "dump memory mem",
     "poke": "set store memset",

@@ -29,6 +29,9 @@ HOST = Kind(r"\d+", 255, "the number of a host", "0", "HOST")
 NODE = Kind(r"\d+", 255, "the number of a node", "0", "NODE")
 PORT = Kind(r"\d+", 31, "the number of a port", "7", "PORT")
 FILE = Kind(r".+", 0, "a file", "hello.s", "FILE")
+OWN_FILE = FILE._replace(meaning="the file of your program", example="my.occ")
+EXERCISE = Kind(r"[a-z0-9][a-z0-9-]{0,63}", 0, "the name of an exercise", "sums", "EXERCISE")
+NUMBER = Kind(r"\d{1,9}", 0, "a number of what you have handed in", "1", "NUMBER")
 TEXT = Kind(r".+", 0, "a text", '"hello\\n"', '"TEXT"')
 SENTENCE = Kind(r".+", 0, "a sentence", "we end at five")
 USER = Kind(r"[a-z0-9-]{1,32}", 0, "a user's name", "ann")
@@ -51,6 +54,7 @@ LOADING = (
     "a node that has booted takes no other boot until it is reset (reset 0): if the bytes would boot nothing it says so, "
     "and asks what to do",
 )
+CHECKING = ("it is tried on a fresh machine of its own, and yours stays as it is",)
 SENDING = ("or numbers: send 0 word 5 -7, byte 1 2 or hex 0a0b; in quotes it is a text",)
 ROOMS = (
     "then rests if the machine rests, the bytes of its room that are used and that there are, and the same of its records",
@@ -68,6 +72,14 @@ USERS = {
     "why": Verb((NODE,), "why 0", "tells why a node waits, halted or runs on; why alone tells it of all nodes", 1),
     "restart": Verb(
         (), "restart", "makes your machine as it was opened, and gives its room back, if it is yours alone"
+    ),
+    "exercises": Verb(
+        (EXERCISE,), "exercises", "lists the exercises of your class, and what you have handed in; one with its task", 1
+    ),
+    "check": Verb((EXERCISE, OWN_FILE), "check sums my.occ", "tries a program in an exercise", more=CHECKING),
+    "submit": Verb((EXERCISE, OWN_FILE), "submit sums my.occ", "tries a program in an exercise and hands it in"),
+    "submitted": Verb(
+        (NUMBER,), "submitted", "lists what you have handed in; with a number one program, with its text", 1
     ),
     "reset": Verb((NODE,), "reset 0", "resets a node; its memory stays"),
     "look": Verb((NODE,), "look 0", "tells a node's state, and how many bytes each link dropped"),
@@ -108,6 +120,8 @@ ALL = {
 OF_BYTES, BYTES_HEAD, WIDTH, EXAMPLE = ("config", "write", "boot", "poke", "peek"), "Byte by byte:", 100, 32
 OF_SCRIPTS = ("config", "write", "boot", "poke", "peek", "collect", "reset", "look")
 SHORTHAND = ("load", "join", "send", "text")
+# Those whose last word is a file.
+OF_FILES = tuple(name for name, verb in USERS.items() if verb.kinds[-1:] in ((FILE,), (OWN_FILE,)))
 # Another word for a verb.
 ALIASES = {"exit": "quit"}
 # The verbs whose answers begin with a number of their lines.

@@ -121,7 +121,7 @@ def start(program: str, words: list[str]) -> NoReturn:
 
         sys.exit(serve_editor([sys.executable, "-S", "-B", "-P", os.path.abspath(__file__), program]))
     if words[:1] == ["check"]:
-        from nadzsumek.web.handing import own_check
+        from nadzsumek.course.orders import own_check
 
         sys.exit(own_check(words[1:]))
     if words[:1] == ["run"] and any(it in ("-h", "--help") or it.endswith(PROGRAMS) for it in words):

@@ -1,6 +1,7 @@
 """The answers at a terminal: to which line each belongs, what it means, and the text of what was collected."""
 import re
 
+from ..course import telling
 from ..mistakes.verbs import NUMBERED
 from .texts import bytes_meant
 from .values import as_letters, as_numbers
@@ -111,7 +112,7 @@ def bytes_of(text: str) -> bytes:
 
 def meaning(answer: str) -> str | None:
     """What an answer means, if that isn't plain."""
-    return next((text for pattern, text in MEANINGS if re.fullmatch(pattern, answer)), None)
+    return telling.refusal(answer) or next((text for pattern, text in MEANINGS if re.fullmatch(pattern, answer)), None)
 
 
 def refusal(line: str, answer: str) -> str | None:
@@ -119,6 +120,8 @@ def refusal(line: str, answer: str) -> str | None:
     no refusal, and neither is that no byte has come."""
     if answer.startswith("error: "):
         return "unanswered"
+    if telling.refusal(answer) is not None:
+        return telling.REFUSED
     error = re.fullmatch(r"(?:! )?error \d+ (\w+)", answer)
     if error:
         return error[1]
@@ -154,7 +157,11 @@ def shortfall(line: str, answer: str) -> str | None:
 
 
 def with_meaning(line: str | None, answer: str) -> list[str]:
-    """An answer as it is shown: with the text of what was collected, and what it means below it."""
+    """An answer as it is shown: with the text of what was collected, and what it means below it. One about exercises is in lines."""
+    if found := telling.read(answer):
+        return telling.lines_of(*found)
+    if why := telling.refusal(answer):
+        return [f"{answer.partition(' ')[0]}: {why}"]
     text = meaning(answer) or (shortfall(line, answer) if line else None)
     return [with_text(answer), *([f"  ({text})"] if text else [])]
 

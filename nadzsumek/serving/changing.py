@@ -12,6 +12,7 @@ import time
 from collections.abc import Iterator
 from typing import TYPE_CHECKING, NoReturn
 
+from ..course.book import follow_names
 from .folder import CLASS, CLASS_LOCK, OWN_FILE, PLAN, Refused, build, is_locked, locker
 from .holders import serve_of
 from .kept import own_class
@@ -76,6 +77,8 @@ def changing(course: str) -> Iterator[Change]:
     """A change of a class that no other process changes, starts or stops meanwhile."""
     own_class(course)
     with hold(course, fcntl.LOCK_EX):
+        # before anybody can get a name that another had
+        follow_names(os.path.abspath(course))
         yield Change(course)
 
 

@@ -231,21 +231,21 @@ def web(words: list[str]) -> int:
 
 
 def handed_in(words: list[str]) -> int:
-    from ..web.handing import submitted
+    from ..course.orders import submitted
 
     return submitted(words)
 
 
 def marked(words: list[str]) -> int:
-    from ..web.handing import marks
+    from ..course.orders import marks
 
     return marks(words)
 
 
 def exercises(words: list[str]) -> int:
-    from ..web import handing
+    from ..course import orders
 
-    return handing.exercises(words)
+    return orders.exercises(words)
 
 
 # Those that read their words by themselves.
@@ -282,14 +282,16 @@ a class that is there:
   class verify DIR NAME FILE  says whether a file is what the farm has recorded of a student
   class check DIR EXERCISE PROGRAMS
                               tries each student's program in an exercise, in farms of its own, and prints a table; also for
-                              a spreadsheet with --csv FILE, and as a page with --html FILE
+                              a spreadsheet with --csv FILE, and as a page with --html FILE; with --submitted in place of
+                              PROGRAMS what each handed in last
   class web DIR               serves a page for each student, and one for the teacher, until it is stopped; the addresses are
                               beside the sheets. See class web --help
-  class exercises FOLDER      tries each exercise of a folder against its own solutions and wrong programs
-  class submitted DIR         shows what students have handed in at their pages
+  class exercises FOLDER      tries each exercise of a folder against its own solutions and wrong programs; with --close NAME
+                              TIME an exercise of a class closes then
+  class submitted DIR         shows what students have handed in
   class marks DIR             shows each student's points, by what was handed in last; both also with --csv FILE
-  class wall DIR FILE         writes a page with what each student's nodes wait for, again every few seconds (--seconds N), or
-                              once with --once
+  class wall DIR              shows a tile for each student, those who need help first, again every few seconds (--seconds N),
+                              or once with --once; with a FILE behind it as a page for a browser
 """
 
 
@@ -311,12 +313,12 @@ class --students NAMES.txt --nodes N [--hosts H] [--memory M] [--limit L] [--roo
        class rename DIR OLD NEW
        class finish [--remove] DIR [ARCHIVE]
        class verify DIR NAME FILE
-       class check [--csv FILE] [--html FILE] DIR EXERCISE PROGRAMS
+       class check [--csv FILE] [--html FILE] [--submitted] DIR EXERCISE [PROGRAMS]
        class web [--listen ADDRESS:PORT] [--address URL] [--cert FILE --key FILE]
                  [--new NAME|--new-teacher] DIR
-       class exercises FOLDER
+       class exercises FOLDER|--close NAME TIME DIR
        class submitted|marks [--csv FILE] DIR
-       class wall [--seconds N] [--once] DIR FILE""",
+       class wall [--seconds N] [--once] DIR [FILE]""",
     )
     add_version(parser)
     parser.add_argument("--students", required=True, metavar="NAMES.txt", help="a file with one name a line")

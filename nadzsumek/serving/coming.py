@@ -9,14 +9,15 @@ import re
 from collections.abc import Callable
 from typing import TYPE_CHECKING, TypeVar
 
+from ..course.book import follow_names
 from .changing import changing
 from .escapes import escaped
 from .folder import Refused, group_number, mode_of, socket_path
 from .kept import student_in
 from .places import MOST_RANGES, part_of, place_for
-from .plans import PORTS, VERSION, check_person, checked_name, people_in, refuse_all, students_among
+from .plans import PORTS, VERSION, check_person, checked_name, people_in, refuse_all, students_among, user_name
 from .records import records_of
-from .sheets import count, sheet, sheet_path, ways_of
+from .sheets import count, person_of, sheet, sheet_path, ways_of
 from .supervising import supervisor_of
 
 if TYPE_CHECKING:
@@ -73,14 +74,6 @@ def check_group(change: Change, user: str) -> None:
             f"the process that has the farms of this class ({supervisor}) came up before its account was in the group "
             f"{shown_name}: stop it, and give this order again before it is started"
         )
-
-
-def person_of(course: str, user: str) -> str:
-    """Who a student is, by his sheet."""
-    with contextlib.suppress(OSError, UnicodeDecodeError):
-        with open(sheet_path(course, user), encoding="utf-8") as it:
-            return it.readline().rstrip("\n") or user
-    return user
 
 
 def shape(machine: Machine) -> str:
@@ -171,7 +164,8 @@ def add(words: list[str]) -> int:
         told = [f"note: {it}" for it in notes]
         for user, (farm, part) in places.items():
             how = "is back in" if user in backs else "is in"
-            path = write_sheet(change, students[user], part, farm)
+            person = shown_name(change.course, user, user, students[user]) if user in backs else students[user]
+            path = write_sheet(change, person, part, farm)
             told.append(
                 f"{user} {how} {os.path.basename(farm)} with {shape(part.machine)}; the sheet is {shown(given.DIR, path)}"
             )
@@ -260,29 +254,45 @@ def change_one(words: list[str]) -> int:
     return status
 
 
-def check_renamed(change: Change, farm: str, person: str) -> tuple[str, list[str]]:
-    """The user of a new name, if it may be given."""
-    check_person(person)
-    user, left = checked_name(person.strip(), {})
+def check_renamed(change: Change, farm: str, line: str) -> tuple[str, str, list[str]]:
+    """The user of a new name, if it may be given, with the name that is shown."""
+    check_person(line)
+    user, person, left = checked_name(line.strip(), {})
     if change.kept.farm_of(user):
         raise Refused(f"{person} is the user {user}, who is there already: choose another name")
     if user in change.removed or records_of(os.path.join(farm, "records"), user):
         raise Refused(f"{person} is the user {user}, of whom there are records already: choose another name")
     socket_path(farm, user)
     check_group(change, user)
-    return user, left
+    return user, person, left
 
 
-def rename(course: str, old: str, person: str) -> int:
+def shown_name(course: str, before: str, user: str, person: str) -> str:
+    """The name that is shown of one who is called so now: who has one that doesn't make the user's name keeps it, if only that of
+    the user is given."""
+    old = person_of(course, before)
+    return old if person == user and user_name(old)[0] != before else person
+
+
+def rename_page(change: Change, before: str, user: str) -> None:
+    """Lets the sheet with the address of a student's page have the new name. The address stays."""
+    old, new = (os.path.join(change.course, "sheets", f"{name}.page.txt") for name in (before, user))
+    with contextlib.suppress(FileNotFoundError), open(old, encoding="utf-8") as it:
+        lines = [line if "/enter/" in line else re.sub(rf"\b{before}\b", user, line) for line in it]
+        change.files[old], change.files[new] = None, "".join(lines).encode()
+
+
+def rename(course: str, old: str, line: str) -> int:
     """Gives a student another name. The records go with him."""
     with changing(course) as change:
         wrong: list[str] = []
         found = all_of(wrong, student_in, change.kept.farms, old, course)
         farm = found[0] if found else next(iter(change.kept.farms), change.course)
-        renamed = all_of(wrong, check_renamed, change, farm, person)
+        renamed = all_of(wrong, check_renamed, change, farm, line)
         refuse_all(wrong)
         assert found and renamed, "what is wrong is refused above"
-        (farm, before), (user, left) = found, renamed
+        (farm, before), (user, person, left) = found, renamed
+        person = shown_name(change.course, before, user, person)
         part = change.part(before)
         part = part_of(re.sub(rf'(\bname\s*=\s*)"{before}"', rf'\1"{user}"', part.text, count=1))
         if part.name != user:
@@ -295,8 +305,13 @@ def rename(course: str, old: str, person: str) -> int:
         change.earlier[user] = [*names, before]
         if os.path.exists(sheet_path(change.course, before)):
             change.files[sheet_path(change.course, before)] = None
-        path = write_sheet(change, person.strip(), part, farm)
+        rename_page(change, before, user)
+        path = write_sheet(change, person, part, farm)
         status = change.carry_out()
+        why: list[str] = []
+        if status == 0:
+            all_of(why, follow_names, change.course)
+        say_all([f"note: {it}. What was handed in gets the name by the next order" for it in why])
         say_all([f"note: {person} is the user {user}, without {' and '.join(left)}"] if left else [])
         say_all([f"{before} is {user} now, and so are the records; the sheet is {shown(course, path)}"])
     return status

@@ -1,20 +1,21 @@
-"""What Tab completes at a terminal: verbs, verbs behind `help`, files and examples behind `load`, and the operator's
-users."""
+"""What Tab completes at a terminal: verbs, verbs behind `help`, files behind `load`, `check` and `submit`, examples behind `load`, and
+the operator's users."""
 import os
 import readline
 
 from .folder import OPERATOR, users_of
+from ..mistakes.verbs import OF_FILES
 from .orders import examples, table_of
 
 
-def files(text: str) -> list[str]:
-    """The files whose path begins so, folders with a slash behind them; and the examples, if no folder is named."""
+def files(text: str, has_examples: bool = True) -> list[str]:
+    """The files whose path begins so, folders with a slash behind them; and the examples, if they are wanted and no folder is named."""
     folder, start = os.path.split(text)
     place = os.path.expanduser(folder) or "."
     there = [
         it + "/" if os.path.isdir(os.path.join(place, it)) else it for it in os.listdir(place) if it.startswith(start)
     ]
-    if not folder:
+    if not folder and has_examples:
         there += [it for it in examples() if it.startswith(start)]
     return sorted({os.path.join(folder, it) for it in there if start or not it.startswith(".")})
 
@@ -29,8 +30,8 @@ def candidates(folder: str, name: str, line: str) -> list[str]:
     verb = words[0].removeprefix("!") if name == OPERATOR else words[0]
     if verb == "help" and len(words) == 1:
         return [it for it in table if it.startswith(text)]
-    if verb == "load" and len(words) == 2:
-        return files(text)
+    if verb in OF_FILES and verb in table and len(words) == 2:
+        return files(text, verb == "load")
     if verb == "restart" and len(words) == 1 and name == OPERATOR:
         return [it for it in users_of(folder) if it.startswith(text)]
     return []

@@ -54,7 +54,8 @@ def is_own(name: str) -> bool:
 
 class Line(NamedTuple):
     """A line of a test: its number in the text, the line that is sent, if any, and what must come: of a host bytes, of a node a
-    state. Bytes have the form in which they are written, `word`, `byte` or `text`; none if that is another, or several.
+    state. Bytes have the form in which they are written, `word`, `byte` or `text`; none if that is another, or several. And the line
+    as it stands in the exercise.
     """
 
     number: int
@@ -62,6 +63,7 @@ class Line(NamedTuple):
     kind: str = ""
     wanted: bytes | str = b""
     form: str = ""
+    text: str = ""
 
 
 class Test(NamedTuple):
@@ -149,7 +151,7 @@ class Reader:
         """A line that each test begins with."""
         if first not in DONE:
             raise Unfit(f"{first} belongs to the head of the exercise, or to a test")
-        self.before.append(self.done(first, rest))
+        self.before.append(self.done(first, rest)._replace(text=f"{first} {rest}"))
 
     def in_test(self, first: str, rest: str) -> None:
         """A line of a test."""
@@ -161,7 +163,7 @@ class Reader:
         elif first in HEAD:
             raise Unfit(f"{first} belongs to the head of the exercise, above all tests")
         else:
-            test["lines"].append(self.done(first, rest))
+            test["lines"].append(self.done(first, rest)._replace(text=f"{first} {rest}"))
 
     def done(self, first: str, rest: str) -> Line:
         """A line that is done in the machine."""
@@ -218,9 +220,16 @@ class Reader:
         self.check_numbers(machine)
         if self.wrong:
             raise Refused("\n".join(self.wrong))
-        tests = tuple(Test(it["name"], (*self.before, *it["lines"]), it["steps"], it["points"]) for it in self.tests)
+        tests = tuple(Test(it["name"], self.lines_in(it), it["steps"], it["points"]) for it in self.tests)
         title = self.head.get("exercise") or os.path.splitext(os.path.basename(self.path))[0]
         return Exercise(title, os.path.dirname(self.path), machine, tests)
+
+    def lines_in(self, test: dict[str, Any]) -> tuple[Line, ...]:
+        """The lines of a test. Where nothing is expected bytes are told in the one form that the test writes."""
+        lines = (*self.before, *test["lines"])
+        forms = {it.form for it in lines if it.kind == "bytes" and it.wanted}
+        form = forms.pop() if len(forms) == 1 else ""
+        return tuple(it if it.wanted or it.kind != "bytes" else it._replace(form=form) for it in lines)
 
     def check_numbers(self, machine: Machine) -> None:
         """Refuses ports, hosts and nodes that the machine hasn't got."""

@@ -17,6 +17,8 @@ from collections.abc import Iterator
 from concurrent.futures import Future, ThreadPoolExecutor
 from typing import IO, TYPE_CHECKING, NamedTuple, cast
 
+from ..course.book import BOOK, copy_of
+from ..course.given import FOLDER as EXERCISES
 from .changing import changing, outs, undisturbed
 from .coming import REMOVED
 from .escapes import escaped
@@ -43,6 +45,16 @@ def entries_of(folder: str) -> list[str]:
     return sorted(os.listdir(folder)) if os.path.isdir(folder) else []
 
 
+def below(folder: str) -> Iterator[str]:
+    """A folder with all that is in it, unless it is empty."""
+    entries = entries_of(folder)
+    if entries:
+        yield folder
+    for it in entries:
+        path = os.path.join(folder, it)
+        yield from below(path) if os.path.isdir(path) and not os.path.islink(path) else [path]
+
+
 def users_of(change: Change) -> list[tuple[str, str]]:
     """Each student with the folder of the farm where the records are: those who are there, and those who were removed."""
     users = [(name, farm) for farm, names in change.kept.farms.items() for name in names]
@@ -53,11 +65,9 @@ def paths_of(change: Change) -> Iterator[str]:
     """What the archive has, folders before what is in them."""
     users, course = users_of(change), change.course
     yield course
-    yield os.path.join(course, CLASS)
-    for folder in ("sheets", REMOVED):
-        if entries_of(os.path.join(course, folder)):
-            yield os.path.join(course, folder)
-            yield from (os.path.join(course, folder, it) for it in entries_of(os.path.join(course, folder)))
+    yield from (it for name in (CLASS, BOOK) if os.path.exists(it := os.path.join(course, name)))
+    for folder in ("sheets", REMOVED, EXERCISES):
+        yield from below(os.path.join(course, folder))
     for farm in dict.fromkeys(farm for _, farm in users):
         yield farm
         yield from (it for name in ("plan.toml", PLAN, LOG) if os.path.exists(it := os.path.join(farm, name)))
@@ -76,12 +86,19 @@ def plain(it: tarfile.TarInfo) -> tarfile.TarInfo:
 
 class Item(NamedTuple):
     """What the archive has: its path, its name there, another name of the same file that stays while the farm goes on, and how
-    many bytes are taken of it."""
+    many bytes are taken of it. Of a file that is changed in place a copy is held, and when that was made."""
 
     path: str
     name: str
     held: str
     size: int
+    made: tuple[int, int] | None = None
+
+    def is_as_taken(self, now: os.stat_result) -> bool:
+        """Whether the file is now as it was taken."""
+        if self.made:
+            return self.made == (now.st_mtime_ns, now.st_size)
+        return now.st_size == self.size and os.path.samestat(now, os.lstat(self.held))
 
 
 def checked(change: Change) -> list[str]:
@@ -99,10 +116,13 @@ def taken(change: Change) -> list[Item]:
     draft, top = Replacement(change.course).draft, os.path.dirname(change.course)
     items = []
     for number, path in enumerate(checked(change)):
-        held = path if os.path.isdir(path) else os.path.join(draft, f"{number}")
-        if held != path:
+        held, made = path if os.path.isdir(path) else os.path.join(draft, f"{number}"), None
+        if os.path.basename(path) == BOOK:
+            # students may hand in at their pages meanwhile
+            made = copy_of(change.course, held)
+        elif held != path:
             os.link(path, held, follow_symlinks=False)
-        items.append(Item(path, os.path.relpath(path, top), held, os.lstat(held).st_size))
+        items.append(Item(path, os.path.relpath(path, top), held, os.lstat(held).st_size, made))
     return items
 
 
@@ -192,7 +212,7 @@ def without(course: str, items: list[Item]) -> list[str]:
     folders = [it.path for it in items if os.path.isdir(it.path)]
     for it in items:
         now = None if it.path in folders or not os.path.lexists(it.path) else os.lstat(it.path)
-        if now and now.st_size == it.size and os.path.samestat(now, os.lstat(it.held)):
+        if now and it.is_as_taken(now):
             os.unlink(it.path)
     discard(course)
     for path in [os.path.join(at, it) for at in folders for it in os.listdir(at) if OWN.search(it)]:

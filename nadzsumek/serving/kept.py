@@ -12,6 +12,7 @@ from typing import Any, NamedTuple
 from .folder import CLASS, OPERATOR, OTHERS_WRITE, Refused, check_own, check_own_file
 from .plans import Machine, user_name
 from .rooms import BOUNDS, bounds_in, bytes_of, words_of_bounds
+from .sheets import person_of
 
 
 class Rooms(NamedTuple):
@@ -118,11 +119,15 @@ def own_class(folder: str) -> Kept:
 
 
 def student_in(farms: dict[str, list[str]], name: str, course: str) -> tuple[str, str]:
-    """The folder of a student's farm, and his user's name. He may be named as in the file of names too."""
+    """The folder of a student's farm, and his user's name. He may be named as in the file of names too, and as on the sheet by who may
+    read that."""
     users = {user: folder for folder, names in farms.items() for user in names}
     for it in (name, user_name(name)[0]):
         if it in users:
             return users[it], it
+    shown = [user for user in users if person_of(course, user) == name.strip()]
+    if len(shown) == 1:
+        return users[shown[0]], shown[0]
     near = difflib.get_close_matches(user_name(name)[0], users, 3, 0.5)
     more = f"near are {', '.join(near)}" if near else f"class status {shlex.quote(course)} lists all"
     raise Refused(f"there is no student {name} in {course}: {more}")

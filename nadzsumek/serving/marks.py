@@ -124,7 +124,11 @@ def as_csv(exercise: Exercise, rows: list[Row]) -> str:
 
 def cell_of(outcome: Outcome) -> str:
     """A test's cell on the page."""
-    more = "".join(f"<div>{html.escape(escaped(it))}</div>" for it in [outcome.remark] if it)
+    more = "".join(
+        f"<div>{html.escape(escaped(it))}</div>"
+        for it in [outcome.remark, *(f"after {one}" for one in outcome.sent)]
+        if it
+    )
     why = f"<pre>{html.escape(escaped(outcome.why, chr(10)))}</pre>" if outcome.why else ""
     kind = outcome.result.split(" ")[0].replace("-", "none")
     return f'<td class="{kind}">{html.escape(outcome.result)}{more}{why}</td>'

@@ -10,15 +10,33 @@ from typing import TYPE_CHECKING
 
 from ..mistakes.elsewhere import BY_WORD, meant
 from ..mistakes.nearness import nearest
-from ..mistakes.verbs import ALIASES, ALL, FILE, OPERATORS, SENTENCE, TEXT, USERS, Wrong, check, find, with_ports
+from ..mistakes.verbs import (
+    ALIASES,
+    ALL,
+    FILE,
+    OF_FILES,
+    OPERATORS,
+    OWN_FILE,
+    SENTENCE,
+    TEXT,
+    USERS,
+    Wrong,
+    check,
+    find,
+    with_ports,
+)
 from .folder import EXAMPLES, OPERATOR, Refused, build, program
-from .programs import OCCAM, near_file
+from .programs import ASSEMBLY, OCCAM, is_program, near_file
 from .texts import in_quotes
 from .values import numeric_bytes
 
 if TYPE_CHECKING:
     from .ports import Ports
     from ..mistakes.verbs import Verb
+
+
+# A program that is handed in has at most so many bytes.
+MOST_TEXT = 65_536
 
 
 def table_of(name: str, ports: Ports | None = None) -> dict[str, Verb]:
@@ -43,7 +61,7 @@ def split(name: str, line: str, ports: Ports | None = None) -> tuple[str, Verb, 
         raise Wrong(f"there is no verb {first!r}. load {table['load'].meaning}. Try: {load}")
     verb = find(table, first)
     most = len(verb.kinds)
-    if verb.kinds and verb.kinds[-1] in (TEXT, FILE, SENTENCE):
+    if verb.kinds and verb.kinds[-1] in (TEXT, FILE, OWN_FILE, SENTENCE):
         words = line.split(None, most)
     return first, verb, [it.strip() for it in words[1:]]
 
@@ -58,6 +76,8 @@ def lines_of(name: str, line: str, ports: Ports | None = None) -> list[str]:
     check(first, verb, words)
     if first == "load":
         return loading(name, words[0], words[1])
+    if first in OF_FILES:
+        return [handing(first, words[0], words[1])]
     numbers = numeric_bytes(words[1]) if first == "send" else None
     if numbers:
         return [f"write {words[0]} {numbers.hex()}"]
@@ -83,22 +103,50 @@ def examples() -> dict[str, str]:
     }
 
 
-def found(file: str, host: str) -> str:
-    """The path of a program's file that is loaded by this host: as it is said, with quotes round it or without, or one of the examples, whose ending may be
-    left out."""
-    name = file[1:-1] if len(file) > 2 and file[0] in "'\"" and file[-1] == file[0] else file
-    there = examples()
+def unquoted(file: str) -> str:
+    """The name of a file, with quotes round it or without."""
+    return file[1:-1] if len(file) > 2 and file[0] in "'\"" and file[-1] == file[0] else file
+
+
+def found(file: str, line: str, there: dict[str, str]) -> str:
+    """The path of a program's file that is the last word of a line which begins so: as it is said, or one of those that are there by
+    name, whose ending may be left out."""
+    name = unquoted(file)
     for path in (os.path.expanduser(name), *(there.get(name + ending, "") for ending in ("", *EXAMPLES))):
         if os.path.isfile(path):
             return path
     if os.path.isdir(os.path.expanduser(name)):
-        raise Wrong(f"{name} is a folder, and load wants a file. Try: load {host} hello.s")
+        raise Wrong(
+            f"{name} is a folder, and {line.partition(' ')[0]} wants a file. Try: {line} {next(iter(there), 'my.occ')}"
+        )
     near = near_file(name) or nearest(name, there)
     if near:
-        raise Wrong(f"there is no file {name} in {os.getcwd()}. Is it {near}? Try: load {host} {near}")
+        raise Wrong(f"there is no file {name} in {os.getcwd()}. Is it {near}? Try: {line} {near}")
     raise Wrong(
         f"there is no file {name} in {os.getcwd()}" + (f". Examples are {', '.join(sorted(there))}" if there else "")
     )
+
+
+def handing(first: str, exercise: str, file: str) -> str:
+    """The line by which a program is tried in an exercise, or handed in: with its language and the bytes of its text."""
+    path = found(file, f"{first} {exercise}", {})
+    if not is_program(path):
+        raise Wrong(f"{file} is no program: the name of one ends with {OCCAM} or {ASSEMBLY}")
+    try:
+        with open(path, "rb") as it:
+            content = it.read(MOST_TEXT + 1)
+    except OSError as error:
+        raise Wrong(f"{file} can't be read: {error.strerror}") from None
+    if len(content) > MOST_TEXT:
+        raise Wrong(f"{file} has more than {MOST_TEXT} bytes")
+    if not content:
+        raise Wrong(f"there is nothing in {file}")
+    try:
+        content.decode()
+    except UnicodeDecodeError as error:
+        line = content.count(b"\n", 0, error.start) + 1
+        raise Wrong(f"{file}, line {line}: the byte {content[error.start]:02x} isn't UTF-8") from None
+    return f"{first} {exercise} {os.path.splitext(path)[1][1:]} {content.hex()}"
 
 
 def translated(path: str, *words: str) -> tuple[list[str] | None, str]:
@@ -113,7 +161,7 @@ def translated(path: str, *words: str) -> tuple[list[str] | None, str]:
 
 def loading(name: str, host: str, file: str) -> list[str]:
     """The lines that boot a program: its code, or pokes and a jump if it is too long for a boot."""
-    path = found(file, host)
+    path = found(file, f"load {host}", examples())
     try:
         build("connect", "lab")
         code, told = translated(path)

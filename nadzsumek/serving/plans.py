@@ -149,16 +149,33 @@ def check_person(person: str) -> None:
         raise Refused(f"{person!r} has the character U+{ord(wrong):04X}, which no name may have: {more}")
 
 
-def checked_name(person: str, students: dict[str, str]) -> tuple[str, list[str]]:
-    """The user of a person beside these students, and what of the name is left out in it."""
-    name, left = user_name(person)
+def divided(line: str) -> tuple[str, str] | None:
+    """The user's name and the name that is shown, of a line `li = 李 小龙` that has both; none if it has a person's name alone."""
+    name, sign, person = (it.strip() for it in line.partition("="))
+    if not sign:
+        return None
+    if not name or user_name(name) != (name, []):
+        raise Refused(
+            f"{line!r}: before = stands a user's name, of a to z, digits and hyphens between them, {NAME} at most, and not "
+            f"{name!r}"
+        )
+    if not person:
+        raise Refused(f"{line!r}: behind = stands the name that is shown, as in {name} = 李 小龙")
+    return name, person
+
+
+def checked_name(line: str, students: dict[str, str]) -> tuple[str, str, list[str]]:
+    """The user of a line beside these students, the name that is shown, and what of it is left out in the user's name."""
+    name, person, left = (*found, []) if (found := divided(line)) else (user_name(line)[0], line, user_name(line)[1])
     if not name:
-        raise Refused(f"{person!r} makes no user's name: write it with a to z and digits")
+        raise Refused(
+            f"{person!r} makes no user's name: write it with a to z and digits, or one before it: li = {person}"
+        )
     if name == OPERATOR:
         raise Refused(f"{person!r} would be the user {OPERATOR}, and that name is reserved: add something to it")
     if name in students:
         raise Refused(f"{person} is the user {name}, as {students[name]} is: add something to one")
-    return name, left
+    return name, person, left
 
 
 def refuse_all(wrong: list[str]) -> None:
@@ -176,11 +193,10 @@ def students_among(
     students: dict[str, str] = {}
     notes: list[str] = []
     wrong: list[str] = []
-    for place, person in people:
+    for place, line in people:
         try:
-            check_person(person)
-            person = person.strip()
-            name, left = checked_name(person, students)
+            check_person(line)
+            name, person, left = checked_name(line.strip(), students)
             check(name, person)
         except Refused as refused:
             wrong.append(f"{place}{refused}")

@@ -16,6 +16,7 @@ import subprocess
 import sys
 from typing import TYPE_CHECKING
 
+from ..course.questions import Course
 from . import running
 from .accepting import accept
 from .backlogs import MOST_OF_USER
@@ -85,6 +86,7 @@ class Server:
         self.operator: Operator
         self.accepting: list[asyncio.Task[None]] = []
         self.wirings: dict[str, Wiring] = {}
+        self.course = Course(self.folder.path)
 
     def current_live(self) -> running.Live:
         """The run of `live` that is there once the farm is up."""
@@ -184,6 +186,9 @@ class Server:
             return
         if speaker.asks_ports(text):
             self.say_ports(speaker, asked)
+            return
+        if speaker.asks_course(text):
+            self.course.answer(speaker, asked)
             return
         speaker.sent(*self.current_live().say(speaker.line(text)), asked)
 
@@ -407,6 +412,7 @@ class Server:
     async def close(self) -> None:
         """Takes the sockets away and lets the clients read what they were told."""
         self.kill()
+        await self.course.end()
         if self.is_stopping:
             self.folder.mark_stopped()
         self.folder.remove_new_plan()

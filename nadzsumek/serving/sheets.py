@@ -2,6 +2,7 @@
 
 from __future__ import annotations
 
+import contextlib
 import os
 import shlex
 import socket
@@ -91,6 +92,14 @@ def ways_of(mode: int) -> Ways:
 def sheet_path(course: str, name: str) -> str:
     """Where a student's sheet is."""
     return os.path.join(course, "sheets", f"{name}.txt")
+
+
+def person_of(course: str, user: str) -> str:
+    """Who a student is, by his sheet."""
+    with contextlib.suppress(OSError, UnicodeDecodeError):
+        with open(sheet_path(course, user), encoding="utf-8") as it:
+            return it.readline().rstrip("\n") or user
+    return user
 
 
 def count(number: int, thing: str) -> str:

@@ -8,6 +8,7 @@ import socket
 from collections.abc import Awaitable, Callable
 from typing import TYPE_CHECKING
 
+from ..course.telling import VERBS
 from ..mistakes.verbs import goes_on
 from .backlogs import MOST_BACKLOG, MOST_OF_USER, Backlog, Held
 from .lines import MOST_LINE, PIECE, Lines
@@ -111,6 +112,10 @@ class Speaker:
     def asks_ports(self, text: bytes) -> bool:
         """Whether a line asks which ports are joined."""
         return text.removesuffix(b"\r") == PORTS
+
+    def asks_course(self, text: bytes) -> bool:
+        """Whether a line asks something about exercises."""
+        return text.removesuffix(b"\r").split(b" ")[0].decode(errors="replace") in VERBS
 
     def sent(self, number: int, place: int, asked: Asked) -> None:
         """The line is that of this number among the speaker's lines of this run of `live`, and of this place among all."""
@@ -220,6 +225,9 @@ class Operator(Speaker):
         return line.removeprefix(TELL) if line.startswith(TELL) else None
 
     def asks_ports(self, _: bytes) -> bool:
+        return False
+
+    def asks_course(self, _: bytes) -> bool:
         return False
 
     def watch(self, live: Live, hear: Hear | None = None) -> Callable[[], bool]:

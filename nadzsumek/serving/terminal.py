@@ -14,6 +14,7 @@ import sys
 import threading
 import time
 
+from ..course import telling
 from ..mistakes.verbs import Wrong, goes_on, help_lines
 from .answers import Due, Loading, refusal, with_meaning
 from .completion import complete_with
@@ -189,7 +190,11 @@ class Terminal:
 
     def wait(self) -> None:
         """Waits a little, so that the answers stand before what comes next."""
-        self.settle(PROMPT_SECONDS if self.is_person else FILE_SECONDS)
+        if self.is_person:
+            self.settle(PROMPT_SECONDS)
+        else:
+            is_of_course = any(it.line.split(" ")[0] in telling.VERBS for it in self.due)
+            self.settle(telling.SECONDS if is_of_course else FILE_SECONDS)
         with self.news:
             if not self.is_person:
                 self.due.clear()

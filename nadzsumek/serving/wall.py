@@ -1,34 +1,35 @@
-"""A page for the wall of a classroom: what each student's nodes wait for. It goes by what the operator is told and by the records, so
-that no student's machine is asked anything, and none has an event of it."""
+"""The wall of a classroom: a tile for each student, on a screen or as a page for a browser."""
 import argparse
 import html
 import os
 import re
+import shutil
 import subprocess
 import sys
 import time
-from concurrent.futures import ThreadPoolExecutor
 
 from .checking import written
-from .coming import person_of
 from .escapes import escaped
 from .folder import Refused, build, program
 from .kept import own_class
 from .pages import page
 from .records import records_of
-from .status import told_by
+from .tiles import FAULT, LINES, ROOM, Tile, on_screen, summary, tiles_of
 
 # How often the page is written unless another time is given, and what is allowed.
 SECONDS, TIMES = 5, range(1, 3601)
 # A record that is longer, or asks for more Steps, isn't done again every few seconds, and no `lab` may take longer.
 MOST_BYTES, MOST_STEPS, MOST_SECONDS = 8 << 20, 50_000_000, 20
-# How many records are done again together, and how many lines of what is said are shown.
-MOST_WORKS, MOST_LINES = 2, 16
-# Where the columns of a row of `class status` are.
-USER, FARM, LINES, EVENTS, USED, ROOM, RECORDS, NOW, FAULT = range(9)
+# How many lines of what is said of a student's nodes are shown.
+MOST_LINES = 16
 SHEET = """
-td.busy { background: #fbe6c6 } td.off, td.no { background: #eee; color: #666 } td.rests { background: #f8d5d5 }
-td.fault { background: #f8d5d5 } pre { margin: 0; white-space: pre-wrap } p { color: #444 }
+.tiles { display: grid; grid-template-columns: repeat(auto-fill, minmax(12em, 1fr)); gap: .5em }
+.tile { border: 1px solid #bbb; border-left: .5em solid #9c9; padding: .3em .5em; color: inherit; text-decoration: none; overflow: hidden }
+.tile b, .tile span { display: block; white-space: nowrap; overflow: hidden; text-overflow: ellipsis }
+.fault { border-left-color: #c00; background: #f8d5d5 } .full, .deadlock { border-left-color: #d80; background: #fbe6c6 }
+.busy { border-left-color: #28c } .off, .fresh { border-left-color: #bbb; color: #666 }
+.tile pre, .tile small { display: none; margin: .3em 0 0; white-space: pre-wrap } .tile:target { grid-column: 1 / -1 }
+.tile:target pre, .tile:target small { display: block } p { color: #444 }
 """
 TOLD = "Nodes are as they were when the student was last answered. Nothing of this page is an event of any machine."
 
@@ -80,41 +81,39 @@ def read(path: str, size: int) -> list[str]:
     return lines[:MOST_LINES] + ([".."] if len(lines) > MOST_LINES else [])
 
 
-def cell(text: str, kind: str = "") -> str:
-    """A cell of the page."""
-    return f'<td class="{kind}">{html.escape(escaped(text))}</td>' if kind else f"<td>{html.escape(escaped(text))}</td>"
-
-
-def row_of(row: tuple[str, ...], person: str, nodes: list[str]) -> str:
-    """A student's row on the page."""
-    now = row[NOW].split(" ")
-    kind = "rests" if "rests" in now else now[0] if now[0] in ("busy", "off", "no") else ""
-    waits = "".join(f"{html.escape(escaped(it))}\n" for it in nodes)
-    who = (
-        f"<td>{html.escape(escaped(person))}<br><small>{html.escape(row[USER])}, {html.escape(row[FARM])}</small></td>"
-    )
-    fault = cell(row[FAULT], "fault" if row[FAULT] not in ("-", "?") else "")
+def tile_of(it: Tile) -> str:
+    """A student's tile on the page. A click shows what the nodes wait for."""
+    person, told, user = (html.escape(escaped(text)) for text in (it.person, it.told, it.user))
+    room, lines, fault = it.row[ROOM], it.row[LINES], it.row[FAULT]
+    more = html.escape(escaped(f"{it.user}, {it.farm}: {lines} lines, {room} of the room, last fault {fault}"))
+    nodes = html.escape(escaped("\n".join(it.lines), "\n"))
     return (
-        f"<tr>{who}{cell(row[NOW], kind)}<td><pre>{waits}</pre></td>{cell(row[ROOM])}{cell(row[LINES])}{fault}</tr>\n"
+        f'<a class="tile {it.kind}" id="{user}" href="#{user}"><b>{person}</b><span>{told}</span><small>{more}</small>'
+        f"<pre>{nodes}</pre></a>\n"
     )
 
 
 def wall_of(course: str, nodes: Nodes, seconds: int | None) -> str:
     """The page."""
-    farms = own_class(course).farms
-    with ThreadPoolExecutor(len(farms) or 1) as pool:
-        rows = [row for rows, _ in pool.map(told_by, farms.keys(), farms.values()) for row in rows]
-    places = {user: farm for farm, names in farms.items() for user in names}
-    with ThreadPoolExecutor(MOST_WORKS) as pool:
-        told = [*pool.map(lambda row: nodes.of(places[row[USER]], row[USER]), rows)]
-    heads = "".join(f"<th>{it}</th>" for it in ("student", "now", "nodes", "room", "lines", "last fault"))
-    body = "".join(row_of(row, person_of(course, row[USER]), lines) for row, lines in zip(rows, told))
-    when = time.strftime("%Y-%m-%d %H:%M:%S")
+    tiles = tiles_of(course, nodes)
     return page(
         os.path.basename(os.path.abspath(course)),
-        f"<p>{when}. {TOLD}</p>\n<table>\n<tr>{heads}</tr>\n{body}</table>",
+        f'<p>{time.strftime("%Y-%m-%d %H:%M:%S")}. {summary(tiles)}. {TOLD}</p>\n'
+        f'<div class="tiles">\n{"".join(tile_of(it) for it in tiles)}</div>',
         SHEET,
         seconds,
+    )
+
+
+def show(course: str, nodes: Nodes) -> None:
+    """Shows the tiles on the screen, in place of what was there."""
+    tiles, (width, height) = tiles_of(course, nodes), shutil.get_terminal_size()
+    head = f"{time.strftime('%H:%M:%S')}  {summary(tiles)}"
+    is_screen = sys.stdout.isatty()
+    # the last line stays free, so that nothing moves
+    lines = on_screen(tiles, head, width, height - 1, is_screen)
+    print(
+        ("\x1b[H\x1b[2J" if is_screen else "") + "\n".join(it if is_screen else it.rstrip() for it in lines), flush=True
     )
 
 
@@ -125,27 +124,30 @@ def seconds_of(word: str) -> int:
 
 
 def wall(words: list[str]) -> int:
-    """Writes a page of what the students of a class do, again and again."""
+    """Shows what the students of a class do, again and again, on the screen or as a page."""
     parser = argparse.ArgumentParser(
         prog="class wall",
-        usage="class wall [--seconds N] [--once] DIR FILE",
-        description="Writes a page for a browser, again and again, with what each student's nodes wait "
-        "for. Ctrl-C ends it.",
+        usage="class wall [--seconds N] [--once] DIR [FILE]",
+        description="Shows a tile for each student, those who need help first, again and again; or writes a page of them for a "
+        "browser. Ctrl-C ends it.",
     )
     parser.add_argument(
         "--seconds", type=seconds_of, default=SECONDS, metavar="N", help=f"how often it is written, default {SECONDS}"
     )
     parser.add_argument("--once", action="store_true", help="writes it once, and ends")
     parser.add_argument("DIR", help="the folder of the class")
-    parser.add_argument("FILE", help="the page's file")
+    parser.add_argument("FILE", nargs="?", help="the page's file; without it the tiles are on the screen")
     it = parser.parse_args(words)
     own_class(it.DIR)
-    if os.path.isdir(it.FILE) or not os.path.isdir(os.path.dirname(os.path.abspath(it.FILE))):
+    if it.FILE and (os.path.isdir(it.FILE) or not os.path.isdir(os.path.dirname(os.path.abspath(it.FILE)))):
         raise Refused(f"there can be no file {it.FILE}: choose another")
     build("class", "lab")
     nodes = Nodes()
     while True:
-        written(it.FILE, wall_of(it.DIR, nodes, None if it.once else it.seconds))
+        if it.FILE:
+            written(it.FILE, wall_of(it.DIR, nodes, None if it.once else it.seconds))
+        else:
+            show(it.DIR, nodes)
         if it.once:
             return 0
         sys.stdout.flush()

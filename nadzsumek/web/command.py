@@ -12,11 +12,11 @@ import ssl
 import sys
 from typing import TYPE_CHECKING, NamedTuple
 
+from ..course.book import TEACHER, Book
 from ..occam.asking import BOUNDED
 from ..serving.escapes import escaped
 from ..serving.folder import OWN_FILE, Refused, build, put_whole
 from ..serving.kept import own_class, student_in
-from .book import TEACHER, Book
 
 if TYPE_CHECKING:
     from .site import Site

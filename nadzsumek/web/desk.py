@@ -14,7 +14,7 @@ from typing import TYPE_CHECKING, Any
 
 from ..failures import FarmError
 from ..farm import AsyncUser, Farm
-from ..mistakes.verbs import ALL, Wrong
+from ..mistakes.verbs import ALL, OF_FILES, Wrong
 from ..results import Rest
 from ..serving.folder import program
 from ..serving.orders import lines_of, split
@@ -38,7 +38,7 @@ MOST_SENT, MOST_SHOWN = 4096, 4096
 # What is wrong with a text, as the lab says it: the place, and what follows it.
 MISTAKE = re.compile(r"(?:line (\d+), column (\d+): )?(.*)", re.S)
 # Lines that a page doesn't ask: a file is one of the server's, and the program of the page is run by its button.
-FILES = "the page loads the program that it shows: press Run"
+FILES = "the page takes the program that it shows: press Run, Check or Submit"
 
 Answer = dict[str, Any]
 
@@ -194,7 +194,7 @@ class Desk:
             if "\n" in line or not line.split():
                 raise Wrong("one line is wanted, such as ports")
             first = split(self.name, line, user.ports)[0]
-            if first == "load":
+            if first in OF_FILES:
                 raise Wrong(FILES)
             if first in ALL:
                 raise Wrong(f"{first} is for a terminal: this page shows all of it")

@@ -14,17 +14,15 @@ from weakref import WeakSet
 
 from aiohttp import WSMsgType, web
 
+from ..course.book import MOST_TEXT, TEACHER, Book
+from ..course.judging import Judge
+from ..course.telling import REFUSED
 from ..farm import Farm
 from ..mistakes.verbs import Wrong
-from ..serving.coming import person_of
-from ..serving.folder import Refused
-from ..serving.kept import own_class
 from ..serving.programs import ASSEMBLY, OCCAM
-from ..serving.status import told_by
-from ..serving.wall import EVENTS, FAULT, LINES, NOW, ROOM, USER, Nodes
-from .book import MOST_TEXT, TEACHER, Book
+from ..serving.tiles import tiles_of
+from ..serving.wall import Nodes
 from .desk import Desk
-from .handing import MOST_SUBMISSIONS, exercise_of, is_closed, listed, submission_of, told_of, tried
 
 STATIC = os.path.join(os.path.dirname(os.path.abspath(__file__)), "static")
 KINDS = {"page.css": "text/css", "student.js": "text/javascript", "teacher.js": "text/javascript"}
@@ -93,6 +91,7 @@ class Site:
     def __init__(self, course: str, hosts: set[str], is_secure: bool) -> None:
         self.course, self.hosts, self.is_secure = os.path.abspath(course), hosts, is_secure
         self.book, self.farm, self.desks = Book(course), Farm(course), dict[str, Desk]()
+        self.judge = Judge(self.course)
         self.hearing: dict[str, int] = {}
         # the connections by which a whole request has come
         self.seen = WeakSet[asyncio.Transport]()
@@ -113,8 +112,8 @@ class Site:
             "/run": self.run,
             "/line": self.line,
             "/text": self.keep,
-            "/check": partial(self.check, False),
-            "/submit": partial(self.check, True),
+            "/check": partial(self.judged, "check"),
+            "/submit": partial(self.judged, "submit"),
         }
         for path, work in works.items():
             app.router.add_post(path, partial(self.posted, work))
@@ -122,6 +121,7 @@ class Site:
         return app
 
     async def close(self, _: web.Application) -> None:
+        self.judge.end()
         for desk in self.desks.values():
             await desk.close()
         self.book.close()
@@ -199,23 +199,15 @@ class Site:
             except Wrong as wrong:
                 return {"error": f"{wrong}"}
 
-    async def check(self, is_last: bool, desk: Desk, asked: dict[str, Any]) -> dict[str, Any]:
-        """Keeps the text, and tries it in an exercise; if it is the last word, it is handed in."""
+    async def judged(self, verb: str, desk: Desk, asked: dict[str, Any]) -> dict[str, Any]:
+        """Keeps the text, and tries it in an exercise, or hands it in."""
         await self.keep(desk, asked)
-        name, kind, text = asked["exercise"], asked["kind"], asked["text"]
-        try:
-            if is_last and is_closed(self.course, name):
-                raise Refused("this exercise is closed: nothing more is handed in")
-            if is_last and self.book.count_submissions(desk.name) >= MOST_SUBMISSIONS:
-                raise Refused(f"you have handed in {MOST_SUBMISSIONS} times, and that is the most")
-            exercise = exercise_of(self.course, name)
-            async with self.turn(desk):
-                row = await asyncio.to_thread(tried, exercise, desk.name, kind, text)
-        except Refused as refused:
-            return {"error": f"{refused}"}
-        if is_last:
-            self.book.submit(submission_of(exercise, row, name, kind, text))
-        return {**told_of(exercise, row), "submitted": is_last}
+        return await self.asked(desk, verb, asked["exercise"], asked["kind"], asked["text"])
+
+    async def asked(self, desk: Desk, verb: str, *words: str) -> dict[str, Any]:
+        """What is answered about exercises, as at a terminal."""
+        told = await self.judge.ask(desk.name, verb, *words) or {REFUSED: "the site ends: ask again when it is back"}
+        return {"error": told[REFUSED]} if REFUSED in told else told
 
     @contextlib.asynccontextmanager
     async def turn(self, desk: Desk) -> AsyncIterator[None]:
@@ -232,13 +224,7 @@ class Site:
 
     async def exercises(self, request: web.Request) -> web.Response:
         """The exercises of the class, each with what the student has handed in last."""
-        desk = self.desk(request)
-        last = {it.exercise: it for it in self.book.submissions(desk.name)}
-        told = await asyncio.to_thread(listed, self.course)
-        for it in told:
-            one = last.get(it["name"])
-            it["submitted"] = {"at": one.at, "points": one.points, "of": one.most} if one else None
-        return web.json_response(told)
+        return web.json_response(await self.asked(self.desk(request), "exercises"))
 
     async def line(self, desk: Desk, asked: dict[str, Any]) -> dict[str, Any]:
         return await desk.line(asked["line"])
@@ -297,21 +283,10 @@ class Site:
         return web.json_response(self.wall_tiles)
 
     def tiles(self) -> list[dict[str, str]]:
-        """What the teacher sees of each student. No machine is asked anything."""
-        farms = own_class(self.course).farms
+        """What the teacher sees of each student, those who need help first. No machine is asked anything."""
         return [
-            {
-                "name": row[USER],
-                "person": person_of(self.course, row[USER]),
-                "now": row[NOW],
-                "lines": row[LINES],
-                "events": row[EVENTS],
-                "room": row[ROOM],
-                "fault": row[FAULT],
-                "why": "\n".join(self.nodes.of(farm, row[USER])),
-            }
-            for farm, names in farms.items()
-            for row in told_by(farm, names)[0]
+            {"name": it.user, "person": it.person, "kind": it.kind, "told": it.told, "why": "\n".join(it.lines)}
+            for it in tiles_of(self.course, self.nodes)
         ]
 
     async def watch(self, runner: web.AppRunner) -> None:

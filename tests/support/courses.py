@@ -39,10 +39,14 @@ class Course:
 
     def __init__(self, count: int, *more: str) -> None:
         self.room = tempfile.TemporaryDirectory()
-        self.folder, self.env = f"{self.room.name}/course", {**os.environ}
+        self.folder, self.env = self.made_at(self.room.name), {**os.environ}
         names = f"{self.room.name}/names.txt"
         put(names, "".join(f"Student {number}\n" for number in range(1, count + 1)))
         assert self.call("--students", names, "--nodes", "1", *more, self.folder).returncode == 0
+
+    def made_at(self, room: str) -> str:
+        """Where the class is to be made."""
+        return f"{room}/course"
 
     def __enter__(self: It) -> It:
         return self

@@ -75,11 +75,12 @@ function showExercise() {
   $("tests").replaceChildren();
   $("submit").disabled = it.closed;
   const last = it.submitted, when = last && new Date(last.at * 1000).toLocaleString();
-  $("submitted").textContent = (last ? `handed in at ${when}: ${last.points} of ${last.of} points` : "not handed in yet") + (it.closed ? "; closed" : "");
+  const closes = it.closes === null ? "" : `; ${it.closed ? "closed" : "closes"} at ${new Date(it.closes * 1000).toLocaleString()}`;
+  $("submitted").textContent = (last ? `handed in at ${when}: ${last.points} of ${last.of} points` : "not handed in yet") + closes;
 }
 
 async function showExercises(chosen) {
-  const told = await (await fetch("/exercises")).json();
+  const told = (await (await fetch("/exercises")).json()).exercises ?? [];
   exercises = Object.fromEntries(told.map((it) => [it.name, it]));
   $("handing").hidden = !told.length;
   $("exercise").replaceChildren(...told.map((it) => new Option(it.title, it.name)));
@@ -91,9 +92,10 @@ async function hand(path) {
   const exercise = $("exercise").value;
   for (const id of ["check", "submit"]) $(id).disabled = true;
   const told = await post(path, { exercise, kind: $("kind").value, text: $("text").value });
-  if (told.submitted) await showExercises(exercise);
+  if (told.number) await showExercises(exercise);
   for (const id of ["check", "submit"]) $(id).disabled = exercises[exercise].closed && id === "submit";
-  const rows = (told.tests || []).filter((it) => it.result !== "-").map((it) => rowOf(it.name, it.result === "ok" ? "ok" : `${it.result}: ${it.remark}\n${it.why}`));
+  const wrong = (it) => [`${it.result}: ${it.remark}`, ...it.sent.map((one) => `after ${one}`), ...it.why].join("\n");
+  const rows = (told.tests || []).map((it) => rowOf(it.name, it.result === "ok" ? "ok" : wrong(it)));
   const points = told.error ?? `${told.points} of ${told.of}${rows.length ? "" : `: ${told.remark}`}`;
   $("tests").replaceChildren(...rows, rowOf("points", points));
 }

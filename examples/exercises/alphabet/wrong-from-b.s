@@ -1,0 +1,16 @@
+        local letter
+        def first = 'a'
+        def behind = 'z' + 1
+        ajw 4
+        ldc first
+        stl letter
+again:  ldl letter
+        adc 1
+        stl letter
+        mint
+        ldl letter
+        outbyte
+        ldl letter
+        eqc behind
+        cj again
+        stopp

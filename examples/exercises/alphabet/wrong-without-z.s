@@ -1,0 +1,16 @@
+        local letter
+        def first = 'a'
+        def behind = 'z'
+        ajw 4
+        ldc first
+        stl letter
+again:  mint
+        ldl letter
+        outbyte
+        ldl letter
+        adc 1
+        stl letter
+        ldl letter
+        eqc behind
+        cj again
+        stopp

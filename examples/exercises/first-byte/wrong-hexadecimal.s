@@ -1,0 +1,5 @@
+        ajw 4
+        mint
+        ldc #42
+        outbyte
+        stopp

@@ -1,0 +1,13 @@
+        local word
+        ajw 4
+again:  ldlp word
+        mint
+        ldnlp 4
+        ldc 4
+        in
+        mint
+        ldl word
+        ldc 10
+        sum
+        outword
+        j again
