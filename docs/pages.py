@@ -36,6 +36,8 @@ HEADLINE = (
 HEADLINE_PLACES = ("docs/PROMISES.md", "crates/farm_core/src/calls.rt")
 # A line of fewer letters isn't taken for a part of it.
 HEADLINE_PART = 20
+# As many words as a sentence, and a row of a table, may have.
+MOST_IN_SENTENCE, MOST_IN_ROW = 40, 60
 # The comments in plain words: each kind of file, and how a line of its comments begins.
 PLAIN_COMMENTS = (
     ("crates/*/src/**/*.rt", r"\s*//"),
@@ -91,6 +93,19 @@ def wrong_words(top: Path) -> Iterator[Wrong]:
         for words, better in PLAIN_WORDS.items():
             for found in re.findall(rf"\b(?:{words})\b", text, re.I):
                 yield file, number, f"{found!r} is no plain word here: write {better}"
+
+
+def long_texts(pages: list[Path]) -> Iterator[Wrong]:
+    """Each sentence and each row that has too many words, as page, line and what is wrong. What is in backticks is one word."""
+    for page in pages:
+        for number, line in lines_of(page):
+            plain = re.sub(r"\]\([^)]*\)", "]", re.sub(r"`[^`]*`", "name", line))
+            is_row = line.startswith("|")
+            what, most = ("row", MOST_IN_ROW) if is_row else ("sentence", MOST_IN_SENTENCE)
+            for part in [plain] if is_row else re.split(r"(?<=[.!?])[)\"*]*\s+", plain):
+                count = len(re.findall(r"[\w'’]+(?:[-.][\w'’]+)*", part))
+                if count > most and not is_of_headline(part):
+                    yield page, number, f"a {what} of {count} words: divide it, {most} are the most: {part[:60].strip()} .."
 
 
 def headings_of(page: Path) -> set[str]:
