@@ -58,37 +58,9 @@ WEIGHTS = {
 SHARE = 0.75
 # What it leaves open: it is in programs if it is put there.
 OPEN = {"INT of BOOL"}
-NAMES = (
-    "x",
-    "y",
-    "z",
-    "n",
-    "count",
-    "total",
-    "a.b",
-    "value",
-    "x1",
-    "x2",
-    "last.byte",
-    "Sum",
-    "hash",
-    "flag",
-    "is.even",
-    "left",
-    "right",
-    "mask",
-    "w",
-    "v.0",
-    "difference.of.words",
-    "K",
-    "seen",
-    "digit",
-    "carry",
-    "p",
-    "q",
-    "step",
-    "bits",
-    "a.name.with.dots",
+NAMES = tuple(
+    "x y z n count total a.b value x1 x2 last.byte Sum hash flag is.even "
+    "left right mask w v.0 difference.of.words K seen digit carry p q step bits a.name.with.dots".split()
 )
 EDGES = (
     0,
@@ -112,34 +84,7 @@ EDGES = (
     MOST_POSITIVE,
     MOST_POSITIVE - 1,
 )
-SIGNS = {
-    "[",
-    "]",
-    "+",
-    "-",
-    "*",
-    "/",
-    "\\",
-    "/\\",
-    "\\/",
-    "><",
-    "<<",
-    ">>",
-    "=",
-    "<>",
-    "<",
-    ">",
-    "<=",
-    ">=",
-    ":=",
-    "?",
-    "!",
-    "&",
-    ",",
-    ":",
-    "(",
-    ")",
-}
+SIGNS = set("[ ] + - * / \\ /\\ \\/ >< << >> = <> < > <= >= := ? ! & , : ( )".split())
 OPERATORS = ("+", "-", "*", "/", "\\", "REM", "PLUS", "MINUS", "TIMES", "/\\", "\\/", "><", "<<", ">>", "+", "-", "*")
 REMARKS = ("", " ", " a remark", " x := 1", " 'not a character", ' "', " ü, ≤", "-- :")
 UNARY = "\0"
