@@ -2,7 +2,10 @@
 if a definition of specs/ or of std has that letter for an argument of the same type, or if its type is a parameter."""
 
 import re
+from collections.abc import Iterator
 
+# An argument's name, if it has one, and its type.
+Argument = tuple[str | None, str]
 # What std's definitions have, as far as a lemma here needs it.
 STD_LETTERS = {("e", "ℕ"), ("p", "ℕ"), ("r", "List ℕ"), ("r", "Result A E"), ("r", "Result T E")}
 BRACKETS = {"(": ")", "[": "]", "{": "}"}
@@ -10,7 +13,7 @@ OTHER_LINES = re.compile(r"--|use |pub use |(pub )?(mod|record|data|rule|ruleset
 BINDER = re.compile(r"[({]\s*([A-Za-z_][\w'\- ]*?)\s+:\s+([^(){}]*)")
 
 
-def declarations(text):
+def declarations(text: str) -> Iterator[str]:
     """The declarations of a file: those that begin in the first column begin one. A module gives one of its parameters, and
     those that stand in it."""
     text = re.sub(r"(?m)--.*$", "", text)
@@ -23,7 +26,7 @@ def declarations(text):
             yield it
 
 
-def outside(text):
+def outside(text: str) -> Iterator[tuple[int, str, bool]]:
     """Each letter of a text with its place, and whether it stands outside all brackets."""
     depth = 0
     for place, letter in enumerate(text):
@@ -32,18 +35,18 @@ def outside(text):
         depth += letter in BRACKETS
 
 
-def pieces(text, mark):
+def pieces(text: str, mark: str) -> list[str]:
     """A text divided at each mark that stands outside all brackets."""
     places = [place for place, letter, is_outside in outside(text) if letter == mark and is_outside]
     return [text[a:b] for a, b in zip([0, *(it + 1 for it in places)], [*places, len(text)])]
 
 
-def typed(text):
+def typed(text: str) -> str:
     """A type with single blanks."""
     return re.sub(r"\s+", " ", re.split(r"\s(?:=|in)\s", text)[0]).strip()
 
 
-def words_of(text):
+def words_of(text: str) -> list[str]:
     """The words and bracketed groups of a text."""
     found, begun = [], None
     for place, letter, is_outside in [*outside(text), (len(text), " ", True)]:
@@ -55,7 +58,7 @@ def words_of(text):
     return found
 
 
-def explicit(signature):
+def explicit(signature: str) -> list[Argument]:
     """The arguments of a signature that a call writes, each with its name, if it has one, and its type."""
     found, parts = [], pieces(signature, "→")
     for number, part in enumerate(parts):
@@ -73,7 +76,7 @@ def explicit(signature):
     return found
 
 
-def arguments(text):
+def arguments(text: str) -> Iterator[tuple[str, list[tuple[str, str]]]]:
     """Of each declaration of a file its name, and of its signature and its clauses the arguments, each with its type."""
     signatures = {}
     for it in declarations(text):
@@ -88,18 +91,18 @@ def arguments(text):
             yield name, [(word, kind) for word, (_, kind) in zip(patterns, signatures[name])]
 
 
-def letters_of(text):
+def letters_of(text: str) -> set[tuple[str, str]]:
     """The pairs of a letter and a type that the definitions of a file have, those of bound variables too."""
     pairs = {(name, typed(match[2])) for match in BINDER.finditer(text) for name in match[1].split()}
     return {*pairs, *(pair for _, of_one in arguments(text) for pair in of_one)}
 
 
-def is_parameter(kind):
+def is_parameter(kind: str) -> bool:
     """Whether a type is a parameter, or a function between such: of a value of that type nothing is known."""
     return kind.startswith("goal.") or bool(re.fullmatch(r"[A-Z](\s*→\s*([A-Z]|Type 0|Bool))*", kind.strip("() ")))
 
 
-def wrong_letters(text, pairs):
+def wrong_letters(text: str, pairs: set[tuple[str, str]]) -> Iterator[tuple[str, str, str]]:
     """The arguments of one small letter whose letter no definition has for their type, each with its lemma."""
     for lemma, of_one in arguments(text):
         for name, kind in of_one:

@@ -1,6 +1,10 @@
 """What `docs/check` asks of the text of pages and comments: that words are plain, and that links lead to something."""
 import re
+from collections.abc import Iterator
+from pathlib import Path
 
+# A file, a line of it, and what is wrong there.
+Wrong = tuple[Path, int, str]
 # The pages in plain words.
 PLAIN_PAGES = ("README.md", "crates/README.md", "docs/*.md", "docs/guides/*.md")
 # The page whose rows begin with words that it explains, whatever they are.
@@ -32,6 +36,8 @@ HEADLINE = (
 HEADLINE_PLACES = ("docs/PROMISES.md", "crates/farm_core/src/calls.rt")
 # A line of fewer letters isn't taken for a part of it.
 HEADLINE_PART = 20
+# As many words as a sentence, and a row of a table, may have.
+MOST_IN_SENTENCE, MOST_IN_ROW = 40, 60
 # The comments in plain words: each kind of file, and how a line of its comments begins.
 PLAIN_COMMENTS = (
     ("crates/*/src/**/*.rt", r"\s*//"),
@@ -40,7 +46,7 @@ PLAIN_COMMENTS = (
 )
 
 
-def lines_of(page):
+def lines_of(page: Path) -> Iterator[tuple[int, str]]:
     """The lines of a page that are in no block, with their numbers."""
     is_block = False
     for number, line in enumerate(page.read_text(encoding="utf-8").split("\n"), 1):
@@ -50,7 +56,7 @@ def lines_of(page):
             yield number, line
 
 
-def plain_lines(top):
+def plain_lines(top: Path) -> Iterator[tuple[Path, int, str]]:
     """Each line that has plain words alone, as file, number and text."""
     for pattern in PLAIN_PAGES:
         for page in sorted(top.glob(pattern)):
@@ -63,13 +69,13 @@ def plain_lines(top):
                     yield file, number, line
 
 
-def is_of_headline(line):
+def is_of_headline(line: str) -> bool:
     """Whether a line of a page or a comment is a part of the promise."""
     part = line.strip("/> ")
     return len(part) >= HEADLINE_PART and (part in HEADLINE or HEADLINE in part)
 
 
-def lost_headlines(top):
+def lost_headlines(top: Path) -> Iterator[Wrong]:
     """Each file that is to have the promise and hasn't, as file, line and what is wrong."""
     for place in HEADLINE_PLACES:
         text = " ".join(line.strip("/> ") for line in (top / place).read_text(encoding="utf-8").split("\n"))
@@ -77,7 +83,7 @@ def lost_headlines(top):
             yield top / place, 1, f"the promise isn't there word for word: {HEADLINE}"
 
 
-def wrong_words(top):
+def wrong_words(top: Path) -> Iterator[Wrong]:
     """Each word of a page or comment in plain words that isn't plain, as file, line and what is wrong. What is in backticks, or
     in a link's target, isn't looked at."""
     for file, number, line in plain_lines(top):
@@ -89,7 +95,20 @@ def wrong_words(top):
                 yield file, number, f"{found!r} is no plain word here: write {better}"
 
 
-def headings_of(page):
+def long_texts(pages: list[Path]) -> Iterator[Wrong]:
+    """Each sentence and each row that has too many words, as page, line and what is wrong. What is in backticks is one word."""
+    for page in pages:
+        for number, line in lines_of(page):
+            plain = re.sub(r"\]\([^)]*\)", "]", re.sub(r"`[^`]*`", "name", line))
+            is_row = line.startswith("|")
+            what, most = ("row", MOST_IN_ROW) if is_row else ("sentence", MOST_IN_SENTENCE)
+            for part in [plain] if is_row else re.split(r"(?<=[.!?])[)\"*]*\s+", plain):
+                count = len(re.findall(r"[\w'’]+(?:[-.][\w'’]+)*", part))
+                if count > most and not is_of_headline(part):
+                    yield page, number, f"a {what} of {count} words: divide it, {most} are the most: {part[:60].strip()} .."
+
+
+def headings_of(page: Path) -> set[str]:
     """The names by which links lead to the headings of a page, as the usual viewers make them."""
     names = set()
     for _, line in lines_of(page):
@@ -100,11 +119,13 @@ def headings_of(page):
     return names
 
 
-def wrong_numbers(page):
+def wrong_numbers(page: Path) -> Iterator[Wrong]:
     """Each number of DECISIONS.md that isn't greater than the one before it in its section, or that is there twice, and each
     section whose numbers its table doesn't have. A choice is a line `- **N.** ..`: as `N. ..` it would be shown by another number.
     """
-    sections, seen, table = {}, set(), {}
+    sections: dict[str, list[int]] = {}
+    seen: set[int] = set()
+    table: dict[str, tuple[int, str]] = {}
     for number, line in lines_of(page):
         heading, row = re.match(r"## (.*)", line), re.match(r"\| ([\d, to]+) \| \[(.*)\]\(", line)
         choice = re.match(r"(?:- \*\*)?(\d+)\.", line)
@@ -125,7 +146,7 @@ def wrong_numbers(page):
             yield page, number, f"{name} has the choices {', '.join(map(str, those))}"
 
 
-def links_of(pages):
+def links_of(pages: list[Path]) -> tuple[int, list[Wrong]]:
     """How many links to files and headings pages have, and each that leads to none, as page, line and what is wrong."""
     total, wrong = 0, []
     for page in pages:
@@ -142,7 +163,7 @@ def links_of(pages):
     return total, wrong
 
 
-def quotes_of(top):
+def quotes_of(top: Path) -> tuple[int, list[Wrong]]:
     """How many blocks of guides quote a file, and each that doesn't, as page, line and what is wrong. A block of Rust begins with a
     line `// FILE`, and a block of text may begin with `# FILE`: what follows are lines of that file, one after another.
     """

@@ -1,6 +1,6 @@
-"""`lab debug`: its commands on records made by hand, whose answers are worked by hand from docs/LAB.md, docs/DOMAIN.md and
-docs/PROCESSOR.md; and on records of programs, where what it shows after the first N events is compared with what `lab replay`
-answers after them, and where it goes with a search through every event by this script."""
+"""`lab debug`: its commands on records made by hand, whose answers are worked by hand, most of them in the table debug.txt; and on
+records of programs, where what it shows after the first N events is compared with what `lab replay` answers after them, and where it
+goes with a search through every event by this script."""
 
 import os
 import pty
@@ -26,89 +26,34 @@ from support.recorded import (
     lab,
     recorded,
 )
+from support.tables import Block, table
 from support.trials import LAB, program, put, text_of
 
 # After each of some counts of events: what the nodes are, and the outputs that are driven.
 States = list[tuple[list[str], list[str]]]
-# Moves the workspace and loops for ever: b4 at 80000048, nfix 0 at 80000049 and j at 8000004a. W is 8000004c, and then 8000005c.
-LOOP = "b4600e"
-# Counts in the word at W plus 4: ajw 4, ldc 0, stl 1, and from 8000004b on ldl 1, adc 1, stl 1, nfix 0, j. The code ends at
-# 80000050, so W is 80000050, and then 80000060; the word is at 80000064.
-COUNTER = "b440d17181d1600b"
-COUNTER_TEXT = """        ajw 4
-        ldc 0
-        stl 1
-loop:
-        ldl 1
-        adc 1           -- one more
-        stl 1
-        j loop
-"""
 # Ann has a second host at port 6.
 TWO_HOSTS = HEAD.format(NODE.format("[0, -1, -1, -1]")).replace("host = [7]", "host = [7, 6]")
 # Waits for a byte of link 0, and sends it back, for ever.
 ECHO = "ajw 4\nloop: ldlp 1\nmint\nldnlp 4\nldc 1\nin\nldlp 1\nmint\nldc 1\nout\nj loop"
 
 
-# Variables of each type. By the table of docs/OCCAM.md their words are: total 1, letter 2, is.done 3, squares 4 to 6, word 7 and 8,
-# i 9 (and 10 for the turns), and a temporary 11. ajw 3 is at 80000048 and sethalterr (25 f8) at 80000049; line 7 is ldc -5 at
-# 8000004b and stl 1; line 8 ldc 104 at 8000004e and stl 2; line 9 ldc 0 and stl 3 at 80000052; line 10 begins at 80000053: ldc 0,
-# stl 9, ldc 3, mint (24 f2), csub0 (21 f3), stl 10, ldl 10, cj 19. Line 11, from 8000005e on, is ldl 9, ldl 9, mul (25 f3), stl 11,
-# ldl 9, ldc 3, csub0, ldlp 4, wsub, ldl 11, rev, and stnl 0 at 8000006b; then line 10 again: ldlp 9, ldc 19, lend (22 f1). Line 12,
-# from 80000071 on, is ldc 111, stl 11, ldc 4, ldc 5, csub0, ldlp 7, bsub, ldl 11, rev, sb (23 fb); line 13, from 8000007e on, ldc 1 and
-# stl 3. stopp (21 f5) is at 80000080. The code ends at 80000082, so W is 80000084, and 80000090 after ajw 3.
-TYPES = """INT total:
-BYTE letter:
-BOOL is.done:
-[3]INT squares:
-[5]BYTE word:
-SEQ
-  total := -5
-  letter := 'h'
-  is.done := FALSE
-  SEQ i = 0 FOR 3
-    squares[i] := i * i
-  word[4] := 'o'
-  is.done := TRUE
-"""
-TYPES_CODE = (
-    "b325f8"
-    "604bd1"
-    "2648d2"
-    "40d3"
-    "40d94324f221f3da7a21a3"
-    "797925f3db794321f314fa7bf0e0"
-    "19214322f1"
-    "264fdb444521f317f27bf023fb"
-    "41d3"
-    "21f5"
-)
-# A process that sends one number, and one that wants two. x is word 1, and c word 2; the PAR keeps words 3 and 4. ajw 11 is at 80000048
-# and sethalterr at 80000049; then mint and stl 2, for c, up to 8000004d. Line 3 is ldc 28 at 8000004e, ldpi (21 fb), stl 3, ldc 3,
-# stl 4, two times ldc, ldlp and startp, ldlp 3, and endp at 8000005e. Line 4, from 8000005f on, is ldlp 6, ldc 5 and outword at 80000061,
-# and line 3 again ldlp 7 and endp. Line 6, from 80000064 on, is ldlp 9, ldlp 10, ldc 4 and in at 80000067, line 7 the same up to
-# 8000006b, and line 3 again ldlp 11 and endp. ajw -3 and stopp end it at 80000072, so W is 80000074, and 800000a0 after ajw 11.
-CHANNEL = """CHAN OF INT c:
-INT x:
-PAR
-  c ! 5
-  SEQ
-    c ? x
-    c ? x
-"""
-CHANNEL_CODE = (
-    "bb25f8" "24f2d2" "214c21fb" "d343d4" "46601cfd" "476018fd" "13f3" "1645ff17f3" "191a44f7" "191a44f71bf3" "60bd21f5"
-)
-# 4 + 4 + 12 events, and then 1,000 Steps: behind the s-th Step, event 20 + s, the next byte is at 80000049 if s is odd.
-LOOPED = by_hand(LOOP, 1000)
-# 4 + 9 + 27 events, and then 1,000 Steps: Steps 6, 11, 16 .. store 1, 2, 3 ..
-COUNTED = by_hand(COUNTER, 1000)
+# The table: its records and files, and its trials.
+BLOCKS = table("debug")
+TRIALS = [it for it in BLOCKS if not it.name.startswith(("record ", "file "))]
+FILES = {it.name.split()[1]: "\n".join(it.lines) + "\n" for it in BLOCKS if it.name.startswith("file ")}
 
 
-# 4 events, 59 and 177, and then 22 Steps up to line 11, 19 for each turn, and 17 from line 12 on.
-TYPED = by_hand(TYPES_CODE, 22 + 3 * 19 + 17)
-# 4 events, 43 and 129, and then 6 Steps up to c, 17 up to the end of its own process, 3 and 2 of line 4, and 4 and 4 of the others.
-TALKED = by_hand(CHANNEL_CODE, 6 + 17 + 3 + 4 + 4 + 2)
+def record_of(lines: list[str]) -> str:
+    """The record that a block of the table describes."""
+    if not lines[0].startswith("hand "):
+        return ONE + "\n".join(lines) + "\n"
+    *code, steps = lines[0].split()[1:]
+    return by_hand("".join(code), int(steps)) + "".join(f"{it}\n" for it in lines[1:])
+
+
+RECORDS = {it.name.split()[1]: record_of(it.lines) for it in BLOCKS if it.name.startswith("record ")}
+LOOPED, COUNTED, TYPED = RECORDS["LOOPED"], RECORDS["COUNTED"], RECORDS["TYPED"]
+COUNTER_TEXT, TYPES = FILES["counter.s"], FILES["types.occ"]
 
 
 def debugged(
@@ -134,295 +79,23 @@ def said(record: str, commands: Iterable[str], words: Iterable[str] = (), files:
     return out.split("\n", 1)[1]
 
 
+@pytest.mark.parametrize("trial", TRIALS, ids=[it.name for it in TRIALS])
+def test_session(trial: Block) -> None:
+    """Commands of the table, each with what it prints."""
+    words: list[str] = next((it.split()[1:] for it in trial.lines if it.startswith("words ")), [])
+    names = [it.split()[1] for it in trial.lines if it.startswith("file ")]
+    commands = [it[2:] for it in trial.wanted.splitlines() if it.startswith("$ ")]
+    wanted = "".join(it for it in trial.wanted.splitlines(keepends=True) if not it.startswith("$ "))
+    record = RECORDS[trial.lines[0].removeprefix("record ")]
+    assert said(record, commands, words, files={it: FILES[it] for it in names}) == wanted
+
+
+def test_commands_that_are_empty_or_long() -> None:
+    assert said(LOOPED, ["", "   ", "x" * 5000]) == "a command has at most 4096 bytes\n"
+
+
 def test_begins_at_the_end() -> None:
     assert debugged(LOOPED, []) == (0, "after 1020 of 1020 events: step 0 @farm = ran\n", "")
-
-
-def test_goes() -> None:
-    assert said(
-        LOOPED, ["go 20", "next", "back", "back 20", "next 5", "go 5000", "back 5000", "back", "next 9999"]
-    ) == (
-        """\
-after 20 of 1020 events: move 0 @farm = passed
-after 21 of 1020 events: step 0 @farm = ran
-after 20 of 1020 events: move 0 @farm = passed
-after 0 of 1020 events
-after 5 of 1020 events: write 0 03 @0 = written
-after 1020 of 1020 events: step 0 @farm = ran
-after 0 of 1020 events
-after 0 of 1020 events
-after 1020 of 1020 events: step 0 @farm = ran
-"""
-    )
-
-
-def test_lists_events() -> None:
-    assert said(
-        LOOPED, ["go 20", "events 19 2", "events 20", "events 1 1", "go 500", "events 500 1", "go 1020", "events 1020"]
-    ) == (
-        """\
-after 20 of 1020 events: move 0 @farm = passed
-  19: step 0 @farm = ran
-  20: move 0 @farm = passed
-  20: move 0 @farm = passed
-> 21-1020: 1000 times step 0 @farm = 1000 ran
-  the record ends
-  1: config 01 @0 = nothing
-after 500 of 1020 events: step 0 @farm = ran
-> 21-1020: 1000 times step 0 @farm = 1000 ran
-after 1020 of 1020 events: step 0 @farm = ran
-  21-1020: 1000 times step 0 @farm = 1000 ran
-> the record ends
-"""
-    )
-
-
-def test_lists_events_around() -> None:
-    """Five lines before the next one, and ten in all."""
-    assert said(LOOPED, ["go 8", "events", "go 0", "events"]) == (
-        """\
-after 8 of 1020 events: write 0 0e @0 = written
-  4: config 03 @0 = nothing
-  5: write 0 03 @0 = written
-  6: write 0 b4 @0 = written
-  7: write 0 60 @0 = written
-  8: write 0 0e @0 = written
-> 9: move 7 @farm = passed
-  10: step 0 @farm = ran
-  11: move 0 @farm = passed
-  12: move 7 @farm = passed
-  13: step 0 @farm = ran
-after 0 of 1020 events
-> 1: config 01 @0 = nothing
-  2: config 00 @0 = nothing
-  3: config 07 @0 = nothing
-  4: config 03 @0 = nothing
-  5: write 0 03 @0 = written
-  6: write 0 b4 @0 = written
-  7: write 0 60 @0 = written
-  8: write 0 0e @0 = written
-  9: move 7 @farm = passed
-  10: step 0 @farm = ran
-"""
-    )
-
-
-def test_until_an_address() -> None:
-    commands = [
-        "go 0",
-        "until node 0 at 8000004a",
-        "until node 0 at 8000004a",
-        "back until node 0 at 8000004a",
-        "go 1020",
-        "back until node 0 at 80000049",
-        "until node 0 at 80000049",
-        "go 0",
-        "until node 0 at 80000048",
-        "until node 0 at 80000048",
-        "back until node 0 at 80000048",
-        "until node 0 at 9",
-    ]
-    assert said(LOOPED, commands) == (
-        """\
-after 0 of 1020 events
-after 22 of 1020 events: step 0 @farm = ran
-after 24 of 1020 events: step 0 @farm = ran
-after 22 of 1020 events: step 0 @farm = ran
-after 1020 of 1020 events: step 0 @farm = ran
-after 1019 of 1020 events: step 0 @farm = ran
-there is no such event: after 1019 of 1020 events: step 0 @farm = ran
-after 0 of 1020 events
-after 19 of 1020 events: step 0 @farm = ran
-there is no such event: after 19 of 1020 events: step 0 @farm = ran
-there is no such event: after 19 of 1020 events: step 0 @farm = ran
-there is no such event: after 19 of 1020 events: step 0 @farm = ran
-"""
-    )
-
-
-def test_until_a_jump() -> None:
-    """The byte 0e at 8000004a, with the nfix 0 before it, is a jump back to 80000049: it is done in event 23 and each second one
-    after it. The boot that led to 80000048 is none."""
-    jump = "until jump of node 0"
-    assert said(LOOPED, ["go 0", jump, jump, f"back {jump}", f"back {jump}", "go 1020", f"back {jump}", jump]) == (
-        """\
-after 0 of 1020 events
-after 23 of 1020 events: step 0 @farm = ran
-after 25 of 1020 events: step 0 @farm = ran
-after 23 of 1020 events: step 0 @farm = ran
-there is no such event: after 23 of 1020 events: step 0 @farm = ran
-after 1020 of 1020 events: step 0 @farm = ran
-after 1019 of 1020 events: step 0 @farm = ran
-there is no such event: after 1019 of 1020 events: step 0 @farm = ran
-"""
-    )
-
-
-def test_until_a_write() -> None:
-    """The code's bytes come with events 13, 16 and 19; the counter's word changes with Steps 6, 11, 16 .. behind event 40."""
-    there = "until write 80000064 of node 0"
-    assert (
-        said(LOOPED, ["go 0"] + 4 * ["until write 80000048 of node 0"] + 3 * ["back until write 8000004a of node 0"])
-        + said(
-            COUNTED,
-            [
-                "go 40",
-                there,
-                there,
-                f"back {there}",
-                f"back {there}",
-                "go 1040",
-                f"back {there}",
-                "memory 0 80000064 1",
-            ],
-        )
-    ) == (
-        """\
-after 0 of 1020 events
-after 13 of 1020 events: step 0 @farm = ran
-after 16 of 1020 events: step 0 @farm = ran
-after 19 of 1020 events: step 0 @farm = ran
-there is no such event: after 19 of 1020 events: step 0 @farm = ran
-after 16 of 1020 events: step 0 @farm = ran
-after 13 of 1020 events: step 0 @farm = ran
-there is no such event: after 13 of 1020 events: step 0 @farm = ran
-after 40 of 1040 events: move 0 @farm = passed
-after 46 of 1040 events: step 0 @farm = ran
-after 51 of 1040 events: step 0 @farm = ran
-after 46 of 1040 events: step 0 @farm = ran
-there is no such event: after 46 of 1040 events: step 0 @farm = ran
-after 1040 of 1040 events: step 0 @farm = ran
-after 1036 of 1040 events: step 0 @farm = ran
-80000064  000000c7
-"""
-    )
-
-
-def test_until_a_byte() -> None:
-    """The four bytes leave port 7 in events 9, 12, 15 and 18, and come to port 0. The packets of port 0 are acknowledges."""
-    assert said(LOOPED, ["go 0"] + 5 * ["until byte 7"] + 4 * ["back until byte 0"] + ["until byte 3"]) == (
-        """\
-after 0 of 1020 events
-after 9 of 1020 events: move 7 @farm = passed
-after 12 of 1020 events: move 7 @farm = passed
-after 15 of 1020 events: move 7 @farm = passed
-after 18 of 1020 events: move 7 @farm = passed
-there is no such event: after 18 of 1020 events: move 7 @farm = passed
-after 15 of 1020 events: move 7 @farm = passed
-after 12 of 1020 events: move 7 @farm = passed
-after 9 of 1020 events: move 7 @farm = passed
-there is no such event: after 9 of 1020 events: move 7 @farm = passed
-there is no such event: after 9 of 1020 events: move 7 @farm = passed
-"""
-    )
-
-
-def test_until_a_fault() -> None:
-    """ajw 4, ldc 0, ldnl 0: the third Step faults. The boot message of 4 bytes takes 4 + 4 + 12 events."""
-    record = by_hand("b44030", 2) + "0 step 0 @farm = fault 1\n0 look 0 @0 = halted 1 overruns 0 0 0 0\n"
-    assert said(
-        record, ["back until fault", "back until fault", "go 0", "until fault", "until fault", "look", "go 22", "look"]
-    ) == (
-        """\
-after 23 of 24 events: step 0 @farm = fault 1
-there is no such event: after 23 of 24 events: step 0 @farm = fault 1
-after 0 of 24 events
-after 23 of 24 events: step 0 @farm = fault 1
-there is no such event: after 23 of 24 events: step 0 @farm = fault 1
-node 0 halted 1 overruns 0 0 0 0
-after 22 of 24 events: step 0 @farm = ran
-node 0 running overruns 0 0 0 0
-"""
-    )
-
-
-def test_until_a_loss() -> None:
-    """The host's input drives nothing: its byte is lost. It is the sixth event, and the second loss the last."""
-    record = ONE + "".join(
-        f"0 {it}\n"
-        for it in (
-            "config 01 @0 = nothing",
-            "config 00 @0 = nothing",
-            "config 07 @0 = nothing",
-            "config 03 @0 = nothing",
-            "config 05 @0 = nothing",
-            "config 07 @0 = nothing",
-            "config 05 @0 = nothing",
-            "config 00 @0 = nothing",
-            "write 0 02 @0 = written",
-            "move 7 @farm = lost",
-            "look 0 @0 = booting overruns 0 0 0 0",
-        )
-    )
-    assert said(
-        record, ["go 0", "until lost", "until lost", "go 11", "back until lost", "until byte 7", "go 9", "until byte 7"]
-    ) == (
-        """\
-after 0 of 11 events
-after 10 of 11 events: move 7 @farm = lost
-there is no such event: after 10 of 11 events: move 7 @farm = lost
-after 11 of 11 events: look 0 @0 = booting overruns 0 0 0 0
-after 10 of 11 events: move 7 @farm = lost
-there is no such event: after 10 of 11 events: move 7 @farm = lost
-after 9 of 11 events: write 0 02 @0 = written
-after 10 of 11 events: move 7 @farm = lost
-"""
-    )
-
-
-def test_shows_nodes() -> None:
-    """Behind the boot A and B are 0 and C is the channel of link 0; the first Step moves the workspace."""
-    registers = "A 00000000 B 00000000 C 80000010 O"
-    queue = "Front 80000000 Back 80000000 Error 0 HaltOnError 0 running 1"
-    assert said(
-        LOOPED,
-        [
-            "go 9",
-            "look",
-            "registers 0",
-            "queue 0",
-            "go 20",
-            "registers 0",
-            "go 21",
-            "look",
-            "registers 0",
-            "queue 0",
-            "go 22",
-            "registers 0",
-        ],
-    ) == (
-        f"""\
-after 9 of 1020 events: move 7 @farm = passed
-node 0 booting overruns 0 0 0 0
-no registers: booting overruns 0 0 0 0
-no process: booting overruns 0 0 0 0
-after 20 of 1020 events: move 0 @farm = passed
-registers Iptr 80000048 W 8000004c {registers} 00000000 bytes 0 {queue}
-after 21 of 1020 events: step 0 @farm = ran
-node 0 running overruns 0 0 0 0
-registers Iptr 80000049 W 8000005c {registers} 00000000 bytes 1 {queue}
-runs W 8000005c at 80000049
-none waits
-after 22 of 1020 events: step 0 @farm = ran
-registers Iptr 8000004a W 8000005c {registers} fffffff0 bytes 2 {queue}
-"""
-    )
-
-
-def test_shows_a_queue() -> None:
-    """ajw 8, ldc 2, ldlp -8, startp, and then j 0 without end: startp puts a process of workspace W - 32 that begins two bytes
-    behind it into the queue. The code b4 .. is 48 42 60 18 60 fd?; startp is 0d of operate."""
-    code = assembled("ajw 8\nldc 1\nldlp -8\nstartp\nloop: j loop")
-    size, startp = len(code) // 2, code.index("fd") // 2
-    events = 4 + (size + 1) + 3 * (size + 1) + startp + 1
-    w = (0x80000048 + size + 3) // 4 * 4 + 32
-    begins = 0x80000048 + startp + 2
-    assert said(by_hand(code, 100), [f"go {events}", "queue 0"]).split("\n", 1)[1] == (
-        f"""\
-runs W {w:08x} at {0x80000048 + startp + 1:08x}
-waits W {w - 32:08x} at {begins:08x}
-"""
-    )
 
 
 def test_shows_memory() -> None:
@@ -449,52 +122,6 @@ def test_shows_memory() -> None:
         "80001000 lies outside memory",
         "00000000 lies outside memory",
     ]
-
-
-def test_shows_code() -> None:
-    """Zero bytes are j 0. Behind the prefix of event 22 the instruction that is next is still the one of two bytes."""
-    rest = "".join(f"  {0x8000004b + n:08x}  00           j 0\n" for n in range(14))
-    assert said(LOOPED, ["go 21", "code 0 80000048", "go 22", "code 0"]) == (
-        f"""\
-after 21 of 1020 events: step 0 @farm = ran
-  80000048  b4           ajw 4
-> 80000049  60 0e        j -2
-{rest}after 22 of 1020 events: step 0 @farm = ran
-> 80000049  60 0e        j -2
-{rest}  80000059  00           j 0
-"""
-    )
-
-
-def test_shows_labels() -> None:
-    """Labels are taken as addresses, and lines of the program stand beside the code. The word that counts is at 80000064."""
-    commands = [
-        "program 0 FOLDER/counter.s",
-        "go 43",
-        "code 0",
-        "until node 0 at loop",
-        "until node 0 at nowhere",
-        "memory 0 loop 1",
-    ]
-    shown = said(COUNTED, commands, files={"counter.s": COUNTER_TEXT})
-    by_words = said(COUNTED, commands[1:], words=["--program", "0", "counter.s"], files={"counter.s": COUNTER_TEXT})
-    zeros = "".join(f"  {0x80000050 + n:08x}  00           j 0\n" for n in range(9))
-    wanted = f"""\
-after 43 of 1040 events: step 0 @farm = ran
-  80000048  b4           ajw 4                 -             ajw 4
-  80000049  40           ldc 0                 -             ldc 0
-  8000004a  d1           stl 1                 -             stl 1
-loop:
-> 8000004b  71           ldl 1                 loop          ldl 1
-  8000004c  81           adc 1                 loop+1        adc 1           -- one more
-  8000004d  d1           stl 1                 loop+2        stl 1
-  8000004e  60 0b        j -5                  loop+3        j loop
-{zeros}after 48 of 1040 events: step 0 @farm = ran
-no label `nowhere` is known of node 0 (def and local name no labels, and an address begins with a digit, as 0f)
-8000004b  60d18171 00000b
-"""
-    wanted = wanted.replace("8000004b  60d18171 00000b\n", "80000048  71d140b4\n")
-    assert (shown, by_words) == (wanted, wanted)
 
 
 def test_stops_at_lines_of_occam() -> None:
@@ -575,72 +202,6 @@ def test_stops_in_each_instance() -> None:
     )
 
 
-def test_shows_lines_of_occam() -> None:
-    """The end of a loop belongs to the line of SEQ, and what ends the program to none."""
-    shown = said(
-        TYPED,
-        ["go 300", "code 0 8000006b", "code 0 8000007e"],
-        words=["--program", "0", "types.occ"],
-        files={"types.occ": TYPES},
-    )
-    zeros = "".join(f"  {0x80000082 + n:08x}  00           j 0\n" for n in range(13))
-    assert shown == (
-        f"""\
-after 300 of 336 events: step 0 @farm = ran
-  8000006b  e0           stnl 0                line 11       squares[i] := i * i
-  8000006c  19           ldlp 9                line 10       SEQ i = 0 FOR 3
-  8000006d  21 43        ldc 19                line 10       SEQ i = 0 FOR 3
-  8000006f  22 f1        lend                  line 10       SEQ i = 0 FOR 3
-  80000071  26 4f        ldc 111               line 12       word[4] := 'o'
-  80000073  db           stl 11                line 12       word[4] := 'o'
-  80000074  44           ldc 4                 line 12       word[4] := 'o'
-  80000075  45           ldc 5                 line 12       word[4] := 'o'
-  80000076  21 f3        csub0                 line 12       word[4] := 'o'
-  80000078  17           ldlp 7                line 12       word[4] := 'o'
-  80000079  f2           bsub                  line 12       word[4] := 'o'
-  8000007a  7b           ldl 11                line 12       word[4] := 'o'
-  8000007b  f0           rev                   line 12       word[4] := 'o'
-  8000007c  23 fb        sb                    line 12       word[4] := 'o'
-  8000007e  41           ldc 1                 line 13       is.done := TRUE
-  8000007f  d3           stl 3                 line 13       is.done := TRUE
-  8000007e  41           ldc 1                 line 13       is.done := TRUE
-  8000007f  d3           stl 3                 line 13       is.done := TRUE
-  80000080  21 f5        stopp
-{zeros}"""
-    )
-
-
-def test_shows_variables() -> None:
-    """Each type, whole arrays, and those of one name. Four of the five bytes of word are 0."""
-    commands = [
-        "variables 0",
-        "variables 0 i",
-        "variables 0 nothing",
-        "variables 1",
-        "go 255",
-        "variables 0 squares",
-        "go 0",
-        "variables 0 letter",
-    ]
-    assert said(TYPED, commands, words=["--program", "0", "types.occ"], files={"types.occ": TYPES}) == (
-        """\
-80000094  INT total (line 1): -5
-80000098  BYTE letter (line 2): 104 'h'
-8000009c  BOOL is.done (line 3): TRUE
-800000a0  [3]INT squares (line 4): [0, 1, 4]
-800000ac  [5]BYTE word (line 5): [0, 0, 0, 0, 111 'o']
-800000b4  INT i (line 10): 2
-800000b4  INT i (line 10): 2
-no variable of the program has that name
-there is no node 1: look lists them
-after 255 of 336 events: step 0 @farm = ran
-800000a0  [3]INT squares (line 4): [0, 0, 0]
-after 0 of 336 events
-80000098  BYTE letter (line 2): 0
-"""
-    )
-
-
 def test_shows_what_the_next_step_finds() -> None:
     """A byte that came to a link, and is served by the Step that goes on at line 6, is in its variable. Line 5 is ldc 0 at 8000004b, stl 1,
     ldlp 1, mint (24 f2), ldnlp 4, ldc 1 and in, and line 6 ldc 42 (22 4a) and stl 1. The code ends at 80000058: W is 80000058, and then
@@ -687,36 +248,6 @@ def test_shows_long_arrays() -> None:
     ]
 
 
-def test_takes_names_as_addresses() -> None:
-    """total becomes -5 by the 6th Step; squares[2] 4 by the 14th byte of the third turn. The fifth byte of word is in its second word."""
-    commands = [
-        "go 240",
-        "until write total of node 0",
-        "until write squares[2] of node 0",
-        "back until write is.done of node 0",
-        "until write word[4] of node 0",
-        "memory 0 word 2",
-        "memory 0 squares[1] 2",
-        "until write squares[3] of node 0",
-        "until write squares[x] of node 0",
-        "until write nothing of node 0",
-    ]
-    assert said(TYPED, commands, words=["--program", "0", "types.occ"], files={"types.occ": TYPES}) == (
-        """\
-after 240 of 336 events: move 0 @farm = passed
-after 246 of 336 events: step 0 @farm = ran
-after 314 of 336 events: step 0 @farm = ran
-there is no such event: after 314 of 336 events: step 0 @farm = ran
-after 332 of 336 events: step 0 @farm = ran
-800000ac  00000000 0000006f
-800000a4  00000001 00000004
-`squares` has no element of this subscript
-`squares` has no element of this subscript
-no variable `nothing` is known of node 0: try variables 0
-"""
-    )
-
-
 def test_takes_programs_that_are_poked() -> None:
     """Code of more than 255 bytes begins at 80000050, where it is poked: 3 bytes, 53 assignments of 5 bytes (ldc 4660 has four), and
     stopp. So the last assignment, of line 55, is at 80000157, the code ends at 8000015e, and W is 80000160, and then 8000016c.
@@ -738,173 +269,13 @@ def test_takes_programs_that_are_poked() -> None:
     ]
 
 
-def test_names_of_several_variables() -> None:
-    """Two instances have a variable of one name each, words 1 and 2; the code doesn't matter, and the node isn't booted."""
-    text = "PROC p ()\n  INT x:\n  x := 1\n:\nSEQ\n  p ()\n  p ()\n"
-    # ajw 3, sethalterr, two times ldc 1 and stl, stopp: 9 bytes, W is 80000054, and then 80000060
-    assert said(
-        LOOPED,
-        ["go 0", "variables 0", "until write x of node 0"],
-        words=["--program", "0", "p.occ"],
-        files={"p.occ": text},
-    ) == (
-        """\
-after 0 of 1020 events
-80000064  INT x (line 2): 0
-80000068  INT x (line 2): 0
-`x` is the name of 2 variables: give the address of one, as variables 0 x shows it
-"""
-    )
-
-
-def test_shows_who_waits_at_channels() -> None:
-    """c is a channel from the 6th Step on. The sender comes there at the 26th, and the receiver takes the 5 at the 30th, and waits again
-    at the 34th. So the join, by the two Steps of the sender's end, waits for one process."""
-    commands = [
-        "go 176",
-        "variables 0 c",
-        *["until write c of node 0", "variables 0 c"] * 4,
-        "go 212",
-        "variables 0",
-        "why",
-    ]
-    waits = "800000a8  CHAN c (line 1): a process waits in line"
-    assert said(TALKED, commands, words=["--program", "0", "channel.occ"], files={"channel.occ": CHANNEL}) == (
-        f"""\
-after 176 of 212 events: move 0 @farm = passed
-800000a8  CHAN c (line 1): no channel yet, but 00000000
-after 182 of 212 events: step 0 @farm = ran
-800000a8  CHAN c (line 1): empty
-after 202 of 212 events: step 0 @farm = ran
-{waits} 4: c ! 5
-after 206 of 212 events: step 0 @farm = ran
-800000a8  CHAN c (line 1): empty
-after 210 of 212 events: step 0 @farm = ran
-{waits} 7: c ? x
-after 212 of 212 events: step 0 @farm = ran
-800000a4  INT x (line 2): 5
-{waits} 7: c ? x
-node 0 rests.
-  The process at 8000006b waits in `in` at channel 800000a8 in its memory.
-  No other process is left that could come there: a deadlock.
-node 0 at 8000006b waits in line 7: c ? x
-"""
-    )
-
-
-def test_traces() -> None:
-    """Steps with their labels and lines, packets with their ports, and others as they are recorded; of a node its own alone."""
-    commands = ["trace 2", "go 37", "trace 1", "go 39", "trace 1", "trace 5 0", "go 3", "trace 2 0", "trace 1 7"]
-    shown = said(COUNTED, ["go 3", *commands], words=["--program", "0", "counter.s"], files={"counter.s": COUNTER_TEXT})
-    assert shown == (
-        """\
-after 3 of 1040 events: config 07 @0 = nothing
-config 03 @0 = nothing
-write 0 08 @0 = written
-after 5 of 1040 events: write 0 08 @0 = written
-after 37 of 1040 events: move 0 @farm = passed
-port 7 (host 0 of ann) byte 0b goes to 0 (node 0, link 0)
-after 38 of 1040 events: move 7 @farm = passed
-after 39 of 1040 events: step 0 @farm = ran
-port 0 (node 0, link 0) acknowledge goes to 7 (host 0 of ann)
-after 40 of 1040 events: move 0 @farm = passed
-node 0 80000048 ajw 4                 -             ajw 4                        ran W 80000060
-node 0 80000049 ldc 0                 -             ldc 0                        ran C 00000000
-node 0 8000004a stl 1                 -             stl 1                        ran
-node 0 8000004b ldl 1                 loop          ldl 1                        ran
-node 0 8000004c adc 1                 loop+1        adc 1           -- one more  ran A 00000001
-after 45 of 1040 events: step 0 @farm = ran
-after 3 of 1040 events: config 07 @0 = nothing
-after 5 of 1040 events: write 0 08 @0 = written
-there is no node 7: look lists them
-"""
-    )
-
-
-def test_shows_links_and_hosts() -> None:
-    """Event 9 moves the byte 03 to the node, whose Step takes it and acknowledges. A byte counts until its acknowledge came."""
-    rest = "awaits 0 acknowledged 0 input 00000000 0 output 00000000 0 watched 0"
-    others = "".join(f"link {n} sends - acknowledges 0 holds - overruns 0 {rest}\n" for n in (1, 2, 3))
-    assert said(LOOPED, ["go 8", "hosts", "go 9", "links 0", "hosts", "go 10", "links 0", "go 11", "hosts"]) == (
-        f"""\
-after 8 of 1020 events: write 0 0e @0 = written
-host 0 of ann: to send 03b4600e, received -, waits to leave: byte 03
-after 9 of 1020 events: move 7 @farm = passed
-link 0 sends - acknowledges 0 holds 03 overruns 0 {rest}
-{others}host 0 of ann: to send 03b4600e, received -, waits to leave: none
-after 10 of 1020 events: step 0 @farm = ran
-link 0 sends - acknowledges 1 holds - overruns 0 {rest}
-{others}after 11 of 1020 events: move 0 @farm = passed
-host 0 of ann: to send b4600e, received -, waits to leave: byte b4
-"""
-    )
-
-
-def test_shows_the_switch() -> None:
-    assert said(LOOPED, ["go 2", "switch", "go 3", "switch", "go 4", "switch"]) == (
-        """\
-after 2 of 1020 events: config 00 @0 = nothing
-no output is driven
-after 3 of 1020 events: config 07 @0 = nothing
-output 0 (node 0, link 0): input 7 (host 0 of ann), not ready
-output 7 (host 0 of ann): input 0 (node 0, link 0), not ready
-after 4 of 1020 events: config 03 @0 = nothing
-output 0 (node 0, link 0): input 7 (host 0 of ann), ready
-output 7 (host 0 of ann): input 0 (node 0, link 0), ready
-"""
-    )
-
-
-def test_wrong_commands() -> None:
-    until = "until node K at ADDR, until node K at line L, until jump of node K, until fault, until byte PORT, until write ADDR of node K, or until lost"
-    rows = [
-        ("", ""),
-        ("   ", ""),
-        ("hello", "`hello` is no command: try help"),
-        ("go", "a word is missing: try go N"),
-        ("lok", "`lok` is no command (is it look?): try help"),
-        ("regsiter 0", "`regsiter` is no command (is it registers?): try help"),
-        ("until falt", f"`falt` can't stand there (is it fault?): try {until}"),
-        ("go x", "`x` is no number that fits there: try go N"),
-        ("go -1", "`-1` is no number that fits there: try go N"),
-        ("go 5 6", "`6` can't stand there: try go N"),
-        ("go 18446744073709551616", "`18446744073709551616` is no number that fits " "there: try go N"),
-        ("until", f"a word is missing: try {until}"),
-        ("until dawn", f"`dawn` can't stand there: try {until}"),
-        ("until node 0 80000048", f"`80000048` can't stand there: try {until}"),
-        ("until jump", f"a word is missing: try {until}"),
-        ("until jump of host 0", f"`host` can't stand there: try {until}"),
-        ("until jump of node 1", "there is no node 1: look lists them"),
-        ("until node 256 at 80000048", f"`256` is no number that fits there: try {until}"),
-        ("until node 0 at 8000004x", f"`8000004x` is no number that fits there: try {until}"),
-        ("back until byte", f"a word is missing: try {until}"),
-        ("back x", "`x` is no number that fits there: try back [N], or back " "until .."),
-        ("until write 80000048 of host 0", f"`host` can't stand there: try {until}"),
-        ("registers", "a word is missing: try registers K"),
-        ("registers 1", "there is no node 1: look lists them"),
-        ("links 7", "there is no node 7: look lists them"),
-        ("code 8", "there is no node 8: look lists them"),
-        ("why 3", "there is no node 3: look lists them"),
-        ("memory 0", "a word is missing: try memory K ADDR [COUNT]"),
-        ("memory 0 here", "no label `here` is known of node 0: try program K FILE"),
-        ("until node 1 at 80000048", "there is no node 1: look lists them"),
-        ("until node 0 at line 7", "no lines are known of node 0: try program K FILE"),
-        ("variables", "a word is missing: try variables K [NAME]"),
-        ("variables 0", "no variables are known of node 0: try program K FILE"),
-        ("variables 9 x", "there is no node 9: look lists them"),
-        ("variables 0 x y", "`y` can't stand there: try variables K [NAME]"),
-        ("program 0", "a word is missing: try program K FILE"),
-        ("program 0 nowhere.s", "`nowhere.s` can't be read"),
-        ("look 0", "`0` can't stand there: try look"),
-        ("x" * 5000, "a command has at most 4096 bytes"),
-        ("quit now", "`now` can't stand there: try quit"),
-    ]
-    assert said(LOOPED, [it for it, _ in rows]) == "".join(f"{it}\n" for _, it in rows if it)
-
-
 def test_quits() -> None:
     """What stands behind `quit` isn't read, and the last command needs no line feed."""
-    assert (said(LOOPED, ["go 1", "quit", "go 2"]), said(LOOPED, []), said(by_hand(LOOP, 2), ["go 0"]).count("\n")) == (
+    assert (
+        said(LOOPED, ["go 1", "quit", "go 2"]),
+        said(LOOPED, []),
+        said(by_hand("b4600e", 2), ["go 0"]).count("\n"),
+    ) == (
         "after 1 of 1020 events: config 01 @0 = nothing\n",
         "",
         1,
@@ -1154,7 +525,7 @@ def peeked(record: str, count: int, address: int) -> str:
 
 def test_words_are_those_of_peeks() -> None:
     """The counter's word and the first of its code, whenever the node is peeked."""
-    message = [JOINED, f"0 writes 0 08{COUNTER}", SETTLE, "500 times 0 step 0"]
+    message = [JOINED, f"0 writes 0 08b440d17181d1600b", SETTLE, "500 times 0 step 0"]
     record = recorded(TWO_HOSTS, message[:2] + ["0 settle 256 30", message[3]])
     events = len(event_lines(record))
     counts = [0, 9, 20, 30, 36, 41, 60, 99, events - 100, events - 1, events]
@@ -1290,5 +661,5 @@ def test_a_million_events() -> None:
 @pytest.mark.long
 @pytest.mark.alone
 def test_a_thousand_million_steps() -> None:
-    record = by_hand(LOOP, 10**9)
+    record = by_hand("b4600e", 10**9)
     check_quick(record, 10**9, 10, 0.5, 0.5)

@@ -5,19 +5,10 @@ import os
 from collections.abc import Callable
 
 import pytest
-from support.trials import TOP, put
+from support.trials import NEXT, TOP, put
 
 import nadzsumek
 
-NEXT = """CHAN OF BYTE from, to:
-PLACE from AT link0.in:
-PLACE to AT link0.out:
-BYTE letter:
-WHILE TRUE
-  SEQ
-    from ? letter
-    to ! BYTE ((INT letter) + 1)
-"""
 SEVEN = "        ajw 4\n        mint\n        ldc 7\n        outbyte\n        stopp\n"
 
 

@@ -18,16 +18,17 @@ from collections.abc import Iterator
 from concurrent.futures import ThreadPoolExecutor
 from dataclasses import dataclass, field
 from pathlib import Path
+from typing import NamedTuple
 
 import pytest
 from occam.judging import changed_rules, spoilt_texts
 from occam.meaning import read
-from occam.mistakes import mistakes
 from occam.pieces import FEATURES
 from occam.programs import COUNTS, Made, make
 from occam.running import Talk
 from occam.worked import WORKED, differing
-from support.trials import TOP, WORKERS, contents, run
+from occam.mistakes import Mistake, mistakes
+from support.trials import Ran, TOP, WORKERS, contents, put, run
 
 QUANTA = (1, 256, 4096)
 WAYS = [(workers, quantum) for workers in WORKERS for quantum in QUANTA]
@@ -57,14 +58,16 @@ class Compiled:
     made: Made
     path: str
     text: bytes
-    load: list = field(default_factory=list)
+    load: list[str] = field(default_factory=list)
 
     @property
-    def moved(self):
+    def moved(self) -> int:
         """By how many words the program's first instruction moves the workspace: up by three, or down below the words of its tables."""
-        return int(re.search(rb"(?m)^[^-\n]*\bajw (-?\d+)", self.text)[1])
+        found = re.search(rb"(?m)^[^-\n]*\bajw (-?\d+)", self.text)
+        assert found, self.path
+        return int(found[1])
 
-    def address(self, word):
+    def address(self, word: int) -> int:
         """Where a word of the variables is. Those of the tables, which are behind the code, come before it."""
         boot = self.load[0].split()
         end = 0x80000048 + len(boot[2]) // 2 if boot[0] == "boot" else 0x80000050 + 4 * (len(self.load) - 1)
@@ -72,16 +75,45 @@ class Compiled:
         return (end + 3) // 4 * 4 + 4 * (self.moved + 1 + tables + word)
 
     @property
-    def peeks(self):
+    def peeks(self) -> list[int]:
         """Some words that are known at the end."""
         known = sorted(self.made.known)
         return sorted(random.Random(self.made.seed).sample(known, min(MOST_PEEKS, len(known))))
 
     @property
-    def is_small(self):
+    def is_small(self) -> bool:
         """Whether it ends in time at a quantum of 1."""
         moved = sum(map(len, self.made.coming.values())) + sum(map(len, self.made.talk.said.values()))
         return self.made.talk.cost + EACH_BYTE * moved <= MOST_SINGLE
+
+
+class Asked(NamedTuple):
+    """A line of a run, and its answer, or none if it is collected."""
+
+    line: str
+    wanted: str | None
+
+
+class Turn(NamedTuple):
+    """What a domain runs at one time, with its lines: a program, or what fills memory."""
+
+    program: Compiled | None
+    asked: list[Asked]
+
+
+class Wrong(NamedTuple):
+    """How a program differs, or a batch if there is none."""
+
+    program: Compiled | None
+    how: str
+
+
+class Batch(NamedTuple):
+    """Programs that are run together, how many links they have, and whether all are small."""
+
+    programs: list[Compiled]
+    links: int
+    is_small: bool
 
 
 class Unlike(Exception):
@@ -91,56 +123,52 @@ class Unlike(Exception):
 # ---- compiling
 
 
-def told(answer):
-    status, out, errors = answer
-    return f"status {status}, {out[:200]!r}, {errors.decode(errors='replace')!r}"
+def told(ran: Ran) -> str:
+    return f"status {ran.status}, {ran.output[:200]!r}, {ran.errors.decode(errors='replace')!r}"
 
 
-def loading(lab, given, call):
-    """The lines that load code: `boot`, or pokes if it is too long for one. The call makes code, and takes `--pokes` more."""
-    code = run([*call[0], *call[1]], given)
-    if code[0] == 0:
-        return ["boot 0 " + code[1].decode().strip()], code
-    pokes = run([*call[0], "--pokes", "0", NAME], given)
-    if pokes[0] != 0:
+def loading(call: list[str], *more: str, given: bytes = b"") -> tuple[list[str], Ran]:
+    """The lines that load code: `boot`, or pokes if it is too long for one. The call makes code with more words, and pokes with others."""
+    code = run([*call, *more], given)
+    if code.status == 0:
+        return ["boot 0 " + code.output.decode().strip()], code
+    pokes = run([*call, "--pokes", "0", NAME], given)
+    if pokes.status != 0:
         raise Unlike(f"neither code nor pokes: {told(code)}; {told(pokes)}")
-    lines = [it.removeprefix(NAME + " ") for it in pokes[1].decode().splitlines()]
+    lines = [it.removeprefix(NAME + " ") for it in pokes.output.decode().splitlines()]
     if 4 * (len(lines) - 1) <= LONGEST_BOOT - 3:
         raise Unlike(f"is poked, though it is short: {told(code)}")
     return lines, code
 
 
-def compiled(lab, made, path):
+def compiled(lab: str, made: Made, path: str) -> Compiled:
     """A program as it is compiled, by both ways."""
-    with open(path, "w", encoding="utf-8", newline="") as file:
-        file.write(made.text)
+    put(path, made.text)
     text = run([lab, "occam", path])
-    if text[0] != 0:
+    if text.status != 0:
         raise Unlike(f"isn't compiled: {told(text)}")
-    ours, code = loading(lab, b"", ([lab, "occam", path], ["--code"]))
-    other, again = loading(lab, text[1], ([lab, "assemble"], []))
+    ours, code = loading([lab, "occam", path], "--code")
+    other, again = loading([lab, "assemble"], given=text.output)
     if ours != other or code[:2] != again[:2]:
         raise Unlike(
             f"the assembler makes other code of its text: {ours[:3]} and {other[:3]}; {told(code)} and {told(again)}"
         )
-    if b": warning 42: " in text[2]:
+    if b": warning 42: " in text.errors:
         raise Unlike(f"a variable is said to be new, and isn't: {told(text)}")
     core_again(lab, path, ours)
-    return Compiled(made, path, text[1], ours)
+    return Compiled(made, path, text.output, ours)
 
 
-def core_again(lab, path, wanted):
+def core_again(lab: str, path: str, wanted: list[str]) -> None:
     """Compiles the core of a program, which must be loaded by these lines."""
     core = run([lab, "occam", path, "--core"])
-    if core[0] != 0:
+    if core.status != 0:
         raise Unlike(f"has no core: {told(core)}")
-    place = f"{path}.core.occ"
-    with open(place, "wb") as file:
-        file.write(core[1])
-    ours, _ = loading(lab, b"", ([lab, "occam", place], ["--code"]))
+    place = put(f"{path}.core.occ", core.output)
+    ours, _ = loading([lab, "occam", place], "--code")
     if ours != wanted:
         raise Unlike(f"its core has other code: {place}: {ours[:3]} and {wanted[:3]}")
-    if b"PROC " in core[1] or b" IS " in core[1] and b"VAL " not in core[1]:
+    if b"PROC " in core.output or b" IS " in core.output and b"VAL " not in core.output:
         raise Unlike(f"its core has procedures or other names: {place}")
     os.remove(place)
 
@@ -148,7 +176,7 @@ def core_again(lab, path, wanted):
 # ---- runs
 
 
-def plan_of(count, links):
+def plan_of(count: int, links: int) -> str:
     """The plan of so many domains, each with one node whose first links are joined with hosts."""
     lines, size = ["version = 1"], 2 * links
     for it in range(count):
@@ -167,176 +195,170 @@ def plan_of(count, links):
     return "\n".join(lines) + "\n---\n"
 
 
-def one_run(program, links):
-    """The lines of one run, without the user's name, each with its answer, or none if it is collected."""
-    talk, pairs = program.made.talk, []
+def one_run(program: Compiled, links: int) -> Turn:
+    """The lines of one run, without the user's name."""
+    talk, asked = program.made.talk, []
     for line in program.load:
         words = line.split()
-        pairs.append((line, f"{words[0]} 0 {len(words[2]) // 2 + 1 if words[0] == 'boot' else 9}"))
+        asked.append(Asked(line, f"{words[0]} 0 {len(words[2]) // 2 + 1 if words[0] == 'boot' else 9}"))
     for link, data in sorted(program.made.coming.items()):
-        pairs.append((f"write {link} {data.hex()}", f"write {link} {len(data)}"))
-    pairs += [(f"collect {link}", None) for _ in range(2) for link in range(links)]
-    pairs += [("look 0", f"look 0 {ENDS[talk.end]} overruns 0 0 0 0"), ("reset 0", "reset 0 ok")]
+        asked.append(Asked(f"write {link} {data.hex()}", f"write {link} {len(data)}"))
+    asked += [Asked(f"collect {link}", None) for _ in range(2) for link in range(links)]
+    asked += [Asked("look 0", f"look 0 {ENDS[talk.end]} overruns 0 0 0 0"), Asked("reset 0", "reset 0 ok")]
     for word in program.peeks:
         line = f"peek 0 {program.address(word):08x}"
-        pairs.append((line, f"{line[:6]} {program.made.known[word] & 0xFFFFFFFF:08x}"))
-    return pairs
+        asked.append(Asked(line, f"{line[:6]} {program.made.known[word] & 0xFFFFFFFF:08x}"))
+    return Turn(program, asked)
 
 
-def differs(program, pairs, answers, links):
+def differs(turn: Turn, answers: list[str], links: int) -> str | None:
     """How the answers to one run differ, or none."""
     said = {link: "" for link in range(links)}
-    for (line, wanted), answer in zip(pairs, answers):
+    for (line, wanted), answer in zip(turn.asked, answers):
         if wanted is None:
-            _, link, digits = answer.split(" ", 2)
-            said[int(link)] += digits.removeprefix("-")
+            _, number, digits = answer.split(" ", 2)
+            said[int(number)] += digits.removeprefix("-")
         elif answer != wanted:
-            sent = {link: it for link, it in said.items() if it}
-            return f"{line[:40]}: {answer!r}, expected {wanted!r}; sent {sent}"
-    for link, digits in said.items() if program else ():
-        wanted = program.made.talk.said.get(link, b"").hex()
-        # of a node that halts with other processes a beginning has come
-        if digits != wanted and not (program.made.talk.is_loose and wanted.startswith(digits)):
-            return f"link {link}: {digits or '-'}, expected {wanted or '-'}"
+            return (
+                f"{line[:40]}: {answer!r}, expected {wanted!r}; sent { {link: it for link, it in said.items() if it} }"
+            )
+    if turn.program:
+        talk = turn.program.made.talk
+        for link, digits in said.items():
+            sent = talk.said.get(link, b"").hex()
+            # of a node that halts with other processes a beginning has come
+            if digits != sent and not (talk.is_loose and sent.startswith(digits)):
+                return f"link {link}: {digits or '-'}, expected {sent or '-'}"
     return None
 
 
-def filling():
-    """The lines by which memory is filled, each with its answer."""
-    boot = (f"boot 0 {FILLING}", f"boot 0 {len(FILLING) // 2 + 1}")
-    return [boot, ("look 0", "look 0 idle overruns 0 0 0 0"), ("reset 0", "reset 0 ok")]
+# The lines by which memory is filled.
+FILLS = Turn(
+    None,
+    [
+        Asked(f"boot 0 {FILLING}", f"boot 0 {len(FILLING) // 2 + 1}"),
+        Asked("look 0", "look 0 idle overruns 0 0 0 0"),
+        Asked("reset 0", "reset 0 ok"),
+    ],
+)
 
 
-def orders(batch):
-    """What each domain of a batch runs: its own program, and then the next one's, on memory that isn't new."""
-    return [[it, batch[(at + 1) % len(batch)]] for at, it in enumerate(batch)]
-
-
-def script_of(batch, links, is_helped):
-    """The script of a batch, whose loads are spelled out or not, and for each domain its programs, or none where memory is filled, with
-    lines and answers."""
+def script_of(batch: Batch, is_helped: bool) -> tuple[str, list[list[Turn]]]:
+    """The script of a batch, whose loads are spelled out or not, and what each domain runs: its own program, and then the next one's, on
+    memory that isn't new."""
+    programs, links, _ = batch
     config = "config " + "".join(f"01{link:02x}{links + link:02x}" for link in range(links)) + "03"
     lines, domains = [], []
-    for at, programs in enumerate(orders(batch)):
-        first, second = [(it, one_run(it, links)) for it in programs]
+    for at, program in enumerate(programs):
         lines.append(f"d{at} {config}")
-        runs = [first, (None, filling()), second]
-        for program, pairs in runs:
-            count = len(program.load) if is_helped and program else 0
-            lines += [f"d{at} load 0 {os.path.basename(program.path)}"] if count else []
-            lines += [f"d{at} {line}" for line, _ in pairs[count:]]
-        domains.append(runs)
+        turns = [one_run(program, links), FILLS, one_run(programs[(at + 1) % len(programs)], links)]
+        for its, asked in turns:
+            count = 0
+            if is_helped and its:
+                count = len(its.load)
+                lines.append(f"d{at} load 0 {os.path.basename(its.path)}")
+            lines += [f"d{at} {line}" for line, _ in asked[count:]]
+        domains.append(turns)
     return "\n".join(lines) + "\n", domains
 
 
-def judged(domains, links, status, out, errors):
+def judged(domains: list[list[Turn]], links: int, ran: Ran) -> list[Wrong]:
     """Each program whose answers differ, with how, from what a batch prints; none instead of a program if the batch failed."""
-    if status != 0 or errors:
-        seeds = sorted({program.made.seed for runs in domains for program, _ in runs if program})
-        return [(None, f"status {status}, {errors.decode(errors='replace')!r}, seeds {seeds}")]
-    lines, wrong, at = out.decode().splitlines(), [], 0
-    for number, runs in enumerate(domains):
-        for turn, (program, pairs) in enumerate(runs):
-            at += 1 if turn == 0 else 0
-            answers = [it.removeprefix(f"d{number} ") for it in lines[at : at + len(pairs)]]
-            at += len(pairs)
-            if len(answers) < len(pairs):
-                return [*wrong, (program, "answers are missing")]
-            how = differs(program, pairs, answers, links)
+    if ran.status != 0 or ran.errors:
+        seeds = sorted({it.program.made.seed for turns in domains for it in turns if it.program})
+        return [Wrong(None, f"status {ran.status}, {ran.errors.decode(errors='replace')!r}, seeds {seeds}")]
+    lines, at = ran.output.decode().splitlines(), 0
+    wrong: list[Wrong] = []
+    for number, turns in enumerate(domains):
+        at += 1
+        # what prevents that memory is filled was left by the first program
+        for turn, before in zip(turns, ("", "memory can't be filled then: ", "on memory that others left: ")):
+            answers = [it.removeprefix(f"d{number} ") for it in lines[at : at + len(turn.asked)]]
+            at += len(turn.asked)
+            if len(answers) < len(turn.asked):
+                return [*wrong, Wrong(turn.program, "answers are missing")]
+            how = differs(turn, answers, links)
             if how:
-                # what prevents that memory is filled was left by the first program
-                wrong.append(
-                    (
-                        program or runs[0][0],
-                        ("", "memory can't be filled then: ", "on memory that others left: ")[turn] + how,
-                    )
-                )
+                wrong.append(Wrong(turn.program or turns[0].program, before + how))
     return wrong
 
 
-def by_farm(farm, way, batch, links):
+def by_farm(farm: str, workers: int, quantum: int, batch: Batch) -> list[Wrong]:
     """What differs of a batch in `farm`."""
-    script, domains = script_of(batch, links, False)
-    text = (plan_of(len(batch), links) + script).encode()
-    workers, quantum = way
-    answer = run([farm, "--workers", str(workers), "--quantum", str(quantum)], text, seconds=600)
-    return [
-        (program, f"{workers} workers, quantum {quantum}: {how}") for program, how in judged(domains, links, *answer)
-    ]
+    script, domains = script_of(batch, False)
+    text = (plan_of(len(batch.programs), batch.links) + script).encode()
+    ran = run([farm, "--workers", str(workers), "--quantum", str(quantum)], text, seconds=600)
+    before = f"{workers} workers, quantum {quantum}: "
+    return [it._replace(how=before + it.how) for it in judged(domains, batch.links, ran)]
 
 
-def by_lab(lab, folder, batch, links):
+def by_lab(lab: str, folder: str, batch: Batch) -> list[Wrong]:
     """What differs of a batch in `lab run`, and whether `lab expand` spells the loads out otherwise."""
-    helped, domains = script_of(batch, links, True)
-    plain, _ = script_of(batch, links, False)
-    text = (plan_of(len(batch), links) + helped).encode()
-    wrong = judged(domains, links, *run([lab, "run"], text, seconds=600, folder=folder))
+    helped, domains = script_of(batch, True)
+    plain, _ = script_of(batch, False)
+    text = (plan_of(len(batch.programs), batch.links) + helped).encode()
+    wrong = judged(domains, batch.links, run([lab, "run"], text, seconds=600, folder=folder))
     expanded = run([lab, "expand"], text, folder=folder)
-    spelled = "".join(
-        f"{it}\n" for it in expanded[1].decode().split("---\n", 1)[-1].splitlines() if it and not it.startswith("#")
-    )
-    if expanded[0] != 0 or spelled != plain:
-        wrong.append((batch[0], f"lab expand spells out other lines: {told(expanded)}"))
-    return [(program, f"lab run: {how}") for program, how in wrong]
+    spelled = expanded.output.decode().split("---\n", 1)[-1].splitlines()
+    if expanded.status != 0 or [it for it in spelled if it and not it.startswith("#")] != plain.splitlines():
+        wrong.append(Wrong(batch.programs[0], f"lab expand spells out other lines: {told(expanded)}"))
+    return [it._replace(how="lab run: " + it.how) for it in wrong]
 
 
-def batches_of(programs):
-    """The programs in batches, with how many links they have and whether all are small."""
+def batches_of(programs: list[Compiled]) -> Iterator[Batch]:
+    """The programs in batches."""
     for is_small in (True, False):
         for links in (1, 2, 4):
             chosen = [it for it in programs if it.made.links == links and it.is_small == is_small]
             size = min(MOST_DOMAINS, PORTS // (2 * links))
             for at in range(0, len(chosen), size):
-                yield chosen[at : at + size], links, is_small
+                yield Batch(chosen[at : at + size], links, is_small)
 
 
-def all_runs(farm, lab, folder, programs):
+def all_runs(farm: str, lab: str, folder: str, programs: list[Compiled]) -> list[Wrong]:
     """What differs of all programs."""
-    wrong, turn = [], {True: 0, False: 0}
+    wrong: list[Wrong] = []
+    turn = {True: 0, False: 0}
     large = [it for it in WAYS if it[1] > 1]
-    for batch, links, is_small in batches_of(programs):
-        ways = WAYS if is_small else large
-        at = turn[is_small]
-        turn[is_small] += 1
-        if at % EACH_LAB == 1:
-            wrong += by_lab(lab, folder, batch, links)
-        else:
-            wrong += by_farm(farm, ways[at % len(ways)], batch, links)
+    for batch in batches_of(programs):
+        ways = WAYS if batch.is_small else large
+        at = turn[batch.is_small]
+        turn[batch.is_small] += 1
+        wrong += by_lab(lab, folder, batch) if at % EACH_LAB == 1 else by_farm(farm, *ways[at % len(ways)], batch)
     return wrong
 
 
 # ---- mistakes
 
-FAULT = re.compile(r"^(?:\S+: )?line (\d+), column (\d+): fault (\d+): ")
+FAULT = re.compile(r"(?m)^(?:\S+: )?line (\d+), column (\d+): fault (\d+): ")
 
 
-def wrong_mistake(lab, status, path, mistake):
+def wrong_mistake(lab: str, status: int | None, path: str, mistake: Mistake) -> str | None:
     """How a text with a planted mistake is answered otherwise than expected, or none."""
-    with open(path, "w", encoding="utf-8", newline="") as file:
-        file.write(mistake.text)
+    put(path, mistake.text)
     answer = run([lab, "occam", path])
-    lines = [it for it in answer[2].decode(errors="replace").splitlines() if FAULT.match(it)]
+    found = FAULT.findall(answer.errors.decode(errors="replace"))
     expected = (
         f"line {mistake.line or 'any'}, column {mistake.column or 'any'}, fault {' or '.join(map(str, mistake.faults))}"
     )
-    if answer[:2] != (status, b"") or not lines or mistake.is_alone and len(lines) > 1:
+    if answer[:2] != (status, b"") or not found or mistake.is_alone and len(found) > 1:
         return f"expected {expected}: {told(answer)}"
-    line, column, fault = (int(it) for it in FAULT.match(lines[0]).groups())
+    line, column, fault = (int(it) for it in found[0])
     if fault in mistake.faults and mistake.is_at(line, column):
         return None
-    return f"expected {expected}: {lines[0]}"
+    return f"expected {expected}: {told(answer)}"
 
 
 # ---- all together
 
 
 def worked() -> list[Made]:
-    """The programs that were worked by hand."""
+    """The programs that were worked by hand, with numbers below 0 for their seeds."""
     programs = []
     for number, it in enumerate(WORKED, 1):
         said = {0: bytes.fromhex(it.said)} if it.said else {}
         talk = Talk(said, {}, it.end, read(it.text).run(it.coming).cost, [], it.is_loose)
-        programs.append(Made(f"worked{number}", it.text, it.coming, talk, 1, {}))
+        programs.append(Made(-number, it.text, it.coming, talk, 1, {}))
     return programs
 
 
@@ -377,13 +399,13 @@ def test_programs(
     # their answers would depend on the order in which processes take turns, so they are dropped
     assert COUNTS["depend"] <= MOST_DEPEND * COUNTS["tried"]
     wrong = all_runs(farm, lab, folder, all_compiled(lab, folder, [*by_hand, *made]))
-    assert [f"seed {program.made.seed if program else '?'}: {how}" for program, how in wrong] == []
+    assert [f"seed {it.program.made.seed if it.program else '?'}: {it.how}" for it in wrong] == []
 
 
 @pytest.mark.parametrize("path", sorted(glob.glob(f"{TOP}/examples/occam/*.occ")), ids=os.path.basename)
 def test_cores_of_examples(path: str, lab: str, folder: str) -> None:
     place = shutil.copy(path, folder)
-    ours, _ = loading(lab, b"", ([lab, "occam", place], ["--code"]))
+    ours, _ = loading([lab, "occam", place], "--code")
     core_again(lab, place, ours)
 
 
@@ -413,20 +435,20 @@ def test_changed_code_is_found(count: int | None, seed: int, lab: str, farm: str
         assert next(spoilt_runs(farm, lab, texts), None), name
 
 
-def spoilt_runs(farm, lab, texts):
+def spoilt_runs(farm: str, lab: str, texts: list[tuple[Compiled, str]]) -> Iterator[str]:
     """What differs of programs whose texts were changed."""
     for begin in range(0, len(texts), SPOILT_AT_ONCE):
         spoilt = []
         for program, text in texts[begin : begin + SPOILT_AT_ONCE]:
             try:
-                load, _ = loading(lab, text.encode(), ([lab, "assemble"], []))
+                load, _ = loading([lab, "assemble"], given=text.encode())
             except Unlike:
                 continue
             spoilt.append(Compiled(program.made, program.path, text.encode(), load))
-        for batch, links, _ in batches_of(spoilt):
-            for program, how in by_farm(farm, (2, 256), batch, links):
-                assert program is not None, how
-                yield f"seed {program.made.seed}: {how[:120]}"
+        for batch in batches_of(spoilt):
+            for it in by_farm(farm, 2, 256, batch):
+                assert it.program is not None, it.how
+                yield f"seed {it.program.made.seed}: {it.how[:120]}"
 
 
 def test_rows(lab: str) -> None:

@@ -19,17 +19,8 @@ import pytest
 from support import browser
 from support.pages import HOST, Pages, free_port
 from support.serving_trials import SECONDS
-from support.trials import TOP, contents, put, text_of
+from support.trials import NEXT, TOP, contents, put, text_of
 
-NEXT = """CHAN OF BYTE from, to:
-PLACE from AT link0.in:
-PLACE to AT link0.out:
-BYTE letter:
-WHILE TRUE
-  SEQ
-    from ? letter
-    to ! BYTE ((INT letter) + 1)
-"""
 GREETING = """CHAN OF BYTE to:
 PLACE to AT link0.out:
 out.string ("hello*n", to)

@@ -1,64 +1,15 @@
 """How random occam programs fill, read, change, copy and send arrays, and abbreviate values, variables, elements and arrays."""
-from occam.pieces import FEATURES, Part, Variable, WHOLE
-from occam.values import BOOL, BYTE, INT, MOST_POSITIVE
+from occam.pieces import FEATURES, Variable, WHOLE
+from occam.terms import Terms
+from occam.values import BOOL, BYTE, INT
 
 
-class Arrays:
+class Arrays(Terms):
     """The part of a writer of programs that is about arrays and abbreviations."""
 
     # -- arrays
 
-    def element(self, kind):
-        """An element of a filled array, or none."""
-        found = self.filled(kind)
-        if not found or self.inside_index > 1 or not self.weighs("element"):
-            return None
-        array = self.random.choice(found)
-        return Part([array.name, "[", *self.index(array).tokens, "]"], *array.span)
-
-    def index(self, array, avoided=()):
-        """A subscript of an array, whose variables aren't among those avoided."""
-        self.inside_index += 1
-        hidden, self.hidden = self.hidden, [*self.hidden, *avoided]
-        # whether an element that gets another name is looked for there, or where it is used, is left open
-        is_risky, self.is_risky = self.is_risky, self.is_risky and not avoided
-        part = self.any_index(array)
-        self.hidden, self.is_risky = hidden, is_risky
-        self.inside_index -= 1
-        return part
-
-    def size_of(self, array):
-        if array.size and not (self.chance(0.3) and "SIZE" in FEATURES):
-            return [str(array.size)]
-        return ["(", "SIZE", array.name, ")"]
-
-    def any_index(self, array):
-        size = array.size
-        fitting = [
-            it for it in self.readable(INT) if it.over is array or size and it.span[0] >= 0 and it.span[1] < size
-        ]
-        if fitting and self.chance(0.5):
-            return Part([self.random.choice(fitting).name], 0, (size or 16_000) - 1)
-        if self.chance(0.3):
-            at = self.random.choice((0, (size or 1) - 1, self.random.randrange(size or 1)))
-            return self.constant(at)
-        part = self.int(self.random.choice((0, 1, 1, 2)))
-        if part.is_constant:
-            return self.constant(self.random.randrange(size or 1))
-        if self.risk():
-            return part
-        masks = [it for it in (1, 3, 7, 15, 31, 63) if size and it < size]
-        if masks and self.chance(0.5):
-            mask = self.random.choice(masks)
-            return self.joined(part, "/\\", self.constant(mask), 0, mask)
-        masked = self.joined(
-            part, "/\\", self.constant(self.random.choice((15, 255, 4095, MOST_POSITIVE))), 0, MOST_POSITIVE
-        )
-        return Part(
-            ["(", *masked.tokens, ")", self.random.choice(("\\", "REM")), *self.size_of(array)], 0, (size or 16_000) - 1
-        )
-
-    def letters(self, count):
+    def letters(self, count: int) -> str:
         """A string of so many characters."""
         text = ""
         for _ in range(count):
@@ -66,7 +17,7 @@ class Arrays:
             text += {'"': '*"'}.get(letter, letter)
         return f'"{text}"'
 
-    def table(self, kind, size=None):
+    def table(self, kind: str, size: int | None = None) -> tuple[list[str], int]:
         """The tokens of a table, and its size."""
         size = size or self.random.choice((1, 1, 2, 3, 4, 5, 6, 7, 8, 9, 12))
         if kind == BYTE and "strings" in FEATURES and self.chance(0.8):
@@ -80,22 +31,19 @@ class Arrays:
             tokens.append(",")
         return [*tokens[:-1], "]"], size
 
-    def fill(self, indent, array):
+    def fill(self, indent: int, array: Variable) -> None:
         """Puts what fills an array that no statement has filled."""
         same = [it for it in self.filled(array.type) if it.size == array.size and array.size and it.span == array.span]
-        heard = [
-            it
-            for it in self.array_channels["in"]
-            if it[1] == array.type and it[2] == array.size and array.span == WHOLE
-        ]
+        several = self.array_channels["in"] if array.span == WHOLE else []
+        heard = [it for it in several if (it.kind, it.size) == (array.type, array.size)]
         if same and self.chance(0.2) and "copies" in FEATURES:
             self.put(indent, [array.name, ":=", self.random.choice(same).name])
         elif heard and self.chance(0.7):
-            self.put(indent, [self.random.choice(heard)[0], "?", array.name])
+            self.put(indent, [self.random.choice(heard).name, "?", array.name])
         elif array.size and array.size < 5 and self.chance(0.5):
             self.put(indent, ["SEQ"])
-            for at in self.random.sample(range(array.size), array.size):
-                self.put(indent + 2, [array.name, "[", str(at), "]", ":=", *self.value(array).tokens])
+            for number in self.random.sample(range(array.size), array.size):
+                self.put(indent + 2, [array.name, "[", str(number), "]", ":=", *self.value(array).tokens])
         else:
             many = [str(array.size)] if array.size else ["SIZE", array.name]
             base = self.random.choice((0, 0, 0, 1, -1, 100))
@@ -104,15 +52,15 @@ class Arrays:
             self.variables.append(index)
             self.assigned.add(index)
             at = [index.name] if base == 0 else [index.name, "-", "(", *self.constant(base).tokens, ")"]
-            source = [it for it in self.channels["in"] if it[1] == array.type and array.span == WHOLE]
+            source = [it for it in self.channels["in"] if it.kind == array.type and array.span == WHOLE]
             if source and self.chance(0.3) and self.most_turns > 20:
-                self.put(indent + 2, [self.random.choice(source)[0], "?", array.name, "[", *at, "]"])
+                self.put(indent + 2, [self.random.choice(source).name, "?", array.name, "[", *at, "]"])
             else:
                 self.put(indent + 2, [array.name, "[", *at, "]", ":=", *self.value(array).tokens])
             self.forget(len(self.variables) - 1)
         self.assigned.add(array)
 
-    def arrayed(self, indent):
+    def arrayed(self, indent: int) -> bool:
         """Puts a statement that is about arrays, if there is one, and says whether it did."""
         empty = [it for it in self.arrays() if it not in self.assigned and self.can_change(it)]
         if empty and self.weighs("fill"):
@@ -121,10 +69,10 @@ class Arrays:
         free = [it for it in self.filled() if self.can_change(it)]
         if free and self.weighs("element"):
             array = self.random.choice(free)
-            heard = [it for it in self.channels["in"] if it[1] == array.type and array.span == WHOLE]
+            heard = [it for it in self.channels["in"] if it.kind == array.type and array.span == WHOLE]
             place = [array.name, "[", *self.index(array).tokens, "]"]
             if heard and self.chance(0.25):
-                self.put(indent, [self.random.choice(heard)[0], "?", *place])
+                self.put(indent, [self.random.choice(heard).name, "?", *place])
             else:
                 self.put(indent, [*place, ":=", *self.value(array).tokens])
             return True
@@ -142,7 +90,7 @@ class Arrays:
                 return True
         return False
 
-    def sends_array(self, indent):
+    def sends_array(self, indent: int) -> bool:
         if self.array_channels["in"] and self.chance(0.4):
             name, kind, size, _ = self.random.choice(self.array_channels["in"])
             found = [it for it in self.arrays(kind) if it.size == size and it.span == WHOLE and self.can_change(it)]
@@ -164,7 +112,7 @@ class Arrays:
 
     # -- abbreviations
 
-    def abbreviate(self, indent):
+    def abbreviate(self, indent: int) -> None:
         """Puts abbreviations before a process."""
         if self.weighs("VAL"):
             self.random.choice((self.val, self.val, self.val_array))(indent)
@@ -172,15 +120,15 @@ class Arrays:
             ways = (self.rename, self.rename_element, self.rename_element, self.rename_array, self.rename_channel)
             self.random.choice(ways)(indent)
 
-    def freeze(self, tokens):
+    def freeze(self, tokens: list[str]) -> None:
         self.frozen += self.named_in(tokens)
 
-    def val(self, indent):
+    def val(self, indent: int) -> None:
         if "VAL" not in FEATURES:
             return
         kind = self.random.choice((INT, INT, BYTE, BOOL))
         depth = self.random.choice((0, 1, 2))
-        part = {INT: self.int, BYTE: self.byte, BOOL: self.bool}[kind](depth)
+        part = self.expression(kind, depth)
         name = self.new_name()
         self.put(indent, ["VAL", *([kind] if self.chance(0.6) else []), name, "IS", *part.tokens, ":"])
         self.freeze(part.tokens)
@@ -188,7 +136,7 @@ class Arrays:
         # the names of what is constant are known while compiling
         self.add(Variable(name, kind, span, False, is_constant=kind == INT and part.is_constant))
 
-    def val_array(self, indent):
+    def val_array(self, indent: int) -> None:
         found = self.filled()
         name = self.new_name()
         if found and self.chance(0.3) and "VAL of arrays" in FEATURES:
@@ -199,16 +147,17 @@ class Arrays:
             (tokens, size), span = self.table(kind), WHOLE
         else:
             return
-        how = self.random.choice(([], ["[", "]", kind], ["[", str(size or ""), "]", kind])) if size else []
-        self.put(indent, ["VAL", *[it for it in how if it], name, "IS", *tokens, ":"])
+        ways: list[list[str]] = [[], ["[", "]", kind], ["[", str(size), "]", kind]]
+        how = self.random.choice(ways) if size else []
+        self.put(indent, ["VAL", *how, name, "IS", *tokens, ":"])
         self.freeze(tokens)
         self.add(Variable(name, kind, span, False, size))
 
-    def add(self, variable):
+    def add(self, variable: Variable) -> None:
         self.variables.append(variable)
         self.assigned.add(variable)
 
-    def rename(self, indent):
+    def rename(self, indent: int) -> None:
         found = [it for kind in (INT, BYTE, BOOL) for it in self.readable(kind) if self.can_change(it)]
         if not found or "renamed variables" not in FEATURES:
             return
@@ -217,7 +166,7 @@ class Arrays:
         self.hidden.append(old)
         self.add(Variable(name, old.type, old.span))
 
-    def rename_element(self, indent):
+    def rename_element(self, indent: int) -> None:
         found = [it for it in self.filled() if self.can_change(it)]
         if not found or "renamed elements" not in FEATURES:
             return
@@ -228,7 +177,7 @@ class Arrays:
         self.hidden.append(array)
         self.add(Variable(name, array.type, array.span))
 
-    def rename_array(self, indent):
+    def rename_array(self, indent: int) -> None:
         found = [it for it in self.filled() if self.can_change(it)]
         if not found or "renamed arrays" not in FEATURES:
             return
@@ -238,14 +187,14 @@ class Arrays:
         self.hidden.append(array)
         self.add(Variable(name, array.type, array.span, True, array.size))
 
-    def rename_channel(self, indent):
+    def rename_channel(self, indent: int) -> None:
         if "renamed channels" not in FEATURES:
             return
         side = self.channels[self.random.choice(("in", "out"))]
         if not side:
             return
-        old, kind, link = self.random.choice(side)
+        old, kind, _ = self.random.choice(side)
         name = self.new_name(True)
         self.put(indent, ["CHAN", "OF", kind, name, "IS", old, ":"])
-        side[:] = [(name, *it[1:]) if it[0] == old else it for it in side]
+        side[:] = [it._replace(name=name) if it.name == old else it for it in side]
         self.hidden.append(old)

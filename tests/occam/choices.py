@@ -1,24 +1,62 @@
 """How random occam programs choose by ALT so that their answer is one: results are added up, a server answers each client, or one guard
 alone can be ready."""
+from dataclasses import dataclass
+
+from occam.components import Components
+from occam.pieces import WHOLE
 from occam.values import INT
 
 
-class Choices:
+@dataclass
+class Multiplexer:
+    """Several that send and one that adds up: the names of the channels, of the index of one that sends, of a turn, of a message, of the
+    sum and of what is left, how many send, and how many messages each."""
+
+    channels: str
+    index: str
+    turn: str
+    value: str
+    sum: str
+    live: str
+    count: int
+    rounds: int
+
+    @property
+    def heard(self) -> list[str]:
+        """The tokens of an input from the one with the index."""
+        return [self.channels, "[", self.index, "]", "?", self.value]
+
+
+@dataclass
+class Server:
+    """Who answers clients: the names of the channels of questions and of answers, of the index of a client, of a turn, of a question and
+    of how many clients there are still, and how many there are."""
+
+    ask: str
+    answer: str
+    index: str
+    turn: str
+    value: str
+    live: str
+    count: int
+
+
+class Choices(Components):
     """The part of a writer of programs that is about ALT."""
 
-    def alt(self):
+    def alt(self) -> list[str]:
         return self.random.choice((["ALT"], ["ALT"], ["PRI", "ALT"]))
 
     # the operators by one of which each message is added, so that their order doesn't matter
-    adding = ("PLUS", "MINUS")
+    adding: tuple[str, ...] = ("PLUS", "MINUS")
 
-    def total(self, total, x):
+    def total(self, total: str, x: str) -> list[str]:
         """The tokens of an assignment that adds a message."""
         return [total, ":=", total, self.random.choice(self.adding), *self.over(x)]
 
     # -- multiplexers
 
-    def multiplexer(self, indent):
+    def multiplexer(self, indent: int) -> None:
         """Puts several that send and one that adds up what comes."""
         c, i, j, x, total, live = self.new_names(6)
         count, rounds = self.count(), self.count()
@@ -28,7 +66,7 @@ class Choices:
         value = self.over((i, (0, 255)), (j, (0, 255)), span=span)
         self.put(indent, ["[", str(count), "]", "CHAN", "OF", INT, c, ":"])
 
-        def senders(inner):
+        def senders(inner: int) -> None:
             self.put(inner, self.replicator(i, count))
             self.puts(
                 inner + 2,
@@ -42,7 +80,7 @@ SEQ
             if way == "end":
                 self.put(inner + 4, [c, "[", i, "]", "!", *self.constant(-1).tokens])
 
-        def receiver(inner):
+        def receiver(inner: int) -> None:
             self.puts(
                 inner,
                 f"""
@@ -54,74 +92,72 @@ SEQ
     {live}.of [ {j} ] := {rounds}
 """,
             )
-            each = [[c, "[", i, "]", "?", x], [live + ".of", "[", i, "]"]]
             put = {"count": self.by_count, "left": self.by_left, "end": self.by_end}[way]
-            put(inner + 2, (count, rounds), (c, i, j, x, total, live), each)
+            put(inner + 2, Multiplexer(c, i, j, x, total, live, count, rounds))
             self.shown(inner + 2, [total])
 
         self.components(indent, [senders, receiver])
 
-    def by_count(self, indent, counts, names, each):
+    def by_count(self, indent: int, its: Multiplexer) -> None:
         """As many messages as are sent."""
-        (count, rounds), (c, i, j, x, total, live) = counts, names
-        self.put(indent, ["SEQ", j, "=", "0", "FOR", str(count * rounds)])
+        count, j = its.count, its.turn
+        self.put(indent, ["SEQ", j, "=", "0", "FOR", str(count * its.rounds)])
         if self.chance(0.5):
-            self.put(indent + 2, [*self.alt(), i, "=", "0", "FOR", str(count)])
-            self.put(indent + 4, each[0])
-            self.put(indent + 6, self.total(total, x))
+            self.put(indent + 2, [*self.alt(), its.index, "=", "0", "FOR", str(count)])
+            self.put(indent + 4, its.heard)
+            self.put(indent + 6, self.total(its.sum, its.value))
             return
         self.put(indent + 2, self.alt())
+        conditions: tuple[list[str], ...] = ([], [], ["TRUE", "&"], [j, ">=", "0", "&"])
         for at in self.random.sample(range(count), count):
-            condition = self.random.choice(([], [], ["TRUE", "&"], [j, ">=", "0", "&"]))
-            self.put(indent + 4, [*condition, c, "[", str(at), "]", "?", x])
-            self.put(indent + 6, self.total(total, x))
+            condition = self.random.choice(conditions)
+            self.put(indent + 4, [*condition, its.channels, "[", str(at), "]", "?", its.value])
+            self.put(indent + 6, self.total(its.sum, its.value))
         if self.chance(0.3):
             self.put(indent + 4, [j, "<", "0", "&", "SKIP"])
             self.put(indent + 6, ["STOP"])
 
-    def by_left(self, indent, counts, names, each):
+    def by_left(self, indent: int, its: Multiplexer) -> None:
         """Guards that close when their channel has sent all."""
-        (count, rounds), (_, i, j, x, total, _) = counts, names
-        self.put(indent, ["SEQ", j, "=", "0", "FOR", str(count * rounds)])
+        self.put(indent, ["SEQ", its.turn, "=", "0", "FOR", str(its.count * its.rounds)])
         self.puts(
             indent + 2,
             f"""
-$alt {i} = 0 FOR {count}
+$alt {its.index} = 0 FOR {its.count}
   ( $left > 0 ) & $heard
     SEQ
       $total
       $left := $left - 1
 """,
             alt=self.alt(),
-            left=each[1],
-            heard=each[0],
-            total=self.total(total, x),
+            left=[f"{its.live}.of", "[", its.index, "]"],
+            heard=its.heard,
+            total=self.total(its.sum, its.value),
         )
 
-    def by_end(self, indent, counts, names, each):
+    def by_end(self, indent: int, its: Multiplexer) -> None:
         """Until each has sent its end."""
-        (count, _), (c, i, _, x, total, live) = counts, names
-        self.put(indent, [live, ":=", str(count)])
+        self.put(indent, [its.live, ":=", str(its.count)])
         self.puts(
             indent,
             f"""
-WHILE {live} > 0
-  $alt {i} = 0 FOR {count}
+WHILE {its.live} > 0
+  $alt {its.index} = 0 FOR {its.count}
     $heard
       IF
-        {x} < 0
-          {live} := {live} - 1
+        {its.value} < 0
+          {its.live} := {its.live} - 1
         TRUE
           $total
 """,
             alt=self.alt(),
-            heard=each[0],
-            total=self.total(total, x),
+            heard=its.heard,
+            total=self.total(its.sum, its.value),
         )
 
     # -- servers
 
-    def server(self, indent):
+    def server(self, indent: int) -> None:
         """Puts clients, and a server that answers each of them."""
         ask, answer, i, j, x, a, live = self.new_names(7)
         count, rounds = self.count(), self.count()
@@ -130,7 +166,7 @@ WHILE {live} > 0
         self.put(indent, ["[", str(count), "]", INT, a, ":"])
         self.put(indent, ["SEQ"])
 
-        def clients(inner):
+        def clients(inner: int) -> None:
             self.put(inner, self.replicator(i, count))
             self.puts(
                 inner + 2,
@@ -150,27 +186,27 @@ SEQ
                 next=next_one,
             )
 
-        self.components(
-            indent + 2,
-            self.random.sample([clients, lambda inner: self.serves(inner, (ask, answer, i, j, x, live), count)], 2),
-        )
+        def serves(inner: int) -> None:
+            self.serves(inner, Server(ask, answer, i, j, x, live, count))
+
+        self.components(indent + 2, self.random.sample([clients, serves], 2))
         self.puts(indent + 2, f"SEQ {i} = 0 FOR {count}")
         self.shown(indent + 4, [a, "[", i, "]"])
 
-    def serves(self, indent, names, count):
+    def serves(self, indent: int, its: Server) -> None:
         """Puts a server, whose guards close when their client has ended."""
-        ask, answer, i, j, x, live = names
+        ask, answer, i, x, live = its.ask, its.answer, its.index, its.value, its.live
         self.puts(
             indent,
             f"""
 INT {x} , {live} :
-[ {count} ] BOOL {live}.is :
+[ {its.count} ] BOOL {live}.is :
 SEQ
-  {live} := {count}
-  SEQ {j} = 0 FOR {count}
-    {live}.is [ {j} ] := TRUE
+  {live} := {its.count}
+  SEQ {its.turn} = 0 FOR {its.count}
+    {live}.is [ {its.turn} ] := TRUE
   WHILE {live} <> 0
-    $alt {i} = 0 FOR {count}
+    $alt {i} = 0 FOR {its.count}
       {live}.is [ {i} ] & {ask} [ {i} ] ? {x}
         IF
           {x} >= 0
@@ -184,14 +220,14 @@ SEQ
             reply=self.over(x),
         )
 
-    def free_farm(self, indent):
+    def free_farm(self, indent: int) -> None:
         """Puts a farm whose workers ask for work when they have none."""
         ask, work, w, i, j, x, total = self.new_names(7)
         count, jobs = self.count(), self.count() + self.count()
         value = self.over((j, (0, 255)), span=(0, 1000))
         self.put(indent, ["[", str(count), "]", "CHAN", "OF", INT, ask, ",", work, ":"])
 
-        def workers(inner):
+        def workers(inner: int) -> None:
             self.put(inner, self.replicator(w, count))
             self.puts(
                 inner + 2,
@@ -208,7 +244,7 @@ SEQ
                 done=self.over((x, (0, 1000))),
             )
 
-        def master(inner):
+        def master(inner: int) -> None:
             self.puts(
                 inner,
                 f"""
@@ -235,40 +271,38 @@ SEQ
 
     # -- one guard alone
 
-    def chooses(self, indent):
+    def chooses(self, indent: int) -> None:
         """Puts an ALT of conditions, of which the first that is TRUE is taken, with inputs that aren't looked at."""
-        before, after, closed = set(self.assigned), None, [it for it in self.channels["in"] if self.can_hear(it)]
+        before, ends = set(self.assigned), []
+        closed = [it for it in self.channels["in"] if self.can_hear(it.kind)]
         self.put(indent, self.alt())
         choices = self.random.choice((1, 2, 2, 3, 4))
         for choice in range(choices):
             self.assigned = set(before)
             is_last = choice == choices - 1
-            condition = self.bool(self.depth).tokens
+            condition = self.bool_part(self.depth).tokens
             if is_last and not (self.is_risky and self.chance(0.4)):
                 condition = self.random.choice((["TRUE"], ["1", "=", "1"]))
             if closed and self.chance(0.3):
                 name, kind, _ = self.random.choice(closed)
-                self.put(indent + 2, ["FALSE", "&", name, "?", self.can_hear((name, kind))])
+                self.put(indent + 2, ["FALSE", "&", name, "?", *self.can_hear(kind)])
                 self.put(indent + 4, ["STOP"])
             self.put(indent + 2, [*condition, "&", "SKIP"])
             self.process(indent + 4, 20, 5)
-            after = self.assigned if after is None else after & self.assigned
-        self.assigned = after
+            ends.append(self.assigned)
+        self.assigned = set.intersection(*ends)
 
-    def can_hear(self, channel):
-        """The name of a variable into which a message may come, or none."""
-        found = [
-            it for it in self.visible(channel[1]) if self.can_change(it) and it.span == (-(1 << 31), (1 << 31) - 1)
-        ]
-        return found[0].name if found else None
+    def can_hear(self, kind: str) -> list[str]:
+        """The name of a variable into which a message may come, if there is one."""
+        return [it.name for it in self.visible(kind) if self.can_change(it) and it.span == WHOLE][:1]
 
-    def not_yet(self, indent):
+    def not_yet(self, indent: int) -> None:
         """Puts an ALT by whose input nothing can come yet, since it is asked for only then."""
         c, go, x, z = self.new_names(4)
-        value, is_first = self.int(1).tokens, self.chance(0.5)
+        value, is_first = self.int_part(1).tokens, self.chance(0.5)
         self.puts(indent, f"CHAN OF INT {c} , {go} :")
 
-        def asked(inner):
+        def asked(inner: int) -> None:
             self.puts(
                 inner,
                 f"""
@@ -280,7 +314,7 @@ SEQ
                 new=self.over(x),
             )
 
-        def asks(inner):
+        def asks(inner: int) -> None:
             guards = [([c, "?", z], ["STOP"]), (["TRUE", "&", "SKIP"], [go, "!", *value])]
             self.put(inner, [INT, z, ":"])
             self.put(inner, ["SEQ"])

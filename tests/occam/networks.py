@@ -2,6 +2,7 @@
 from dataclasses import dataclass
 
 from occam.choices import Choices
+from occam.components import Body
 from occam.pieces import FEATURES
 from occam.values import BOOL, BYTE, INT
 
@@ -17,7 +18,7 @@ class Pipe:
     index: str
     rounds: int
     ends: bool
-    new: list
+    new: list[str]
 
 
 @dataclass
@@ -36,7 +37,7 @@ class Farm:
     at: str
     count: int
     rounds: int
-    work: list
+    work: list[str]
 
 
 @dataclass
@@ -50,13 +51,13 @@ class Parts:
     inner: str
     count: int
     each: int
-    shared: list
+    shared: list[str]
 
 
 class Networks(Choices):
     """The part of a writer of programs that is about networks of some kinds."""
 
-    def network(self, indent, turns, nested):
+    def network(self, indent: int, turns: int, nested: int) -> None:
         """Puts a network of one kind."""
         kinds = [self.elements, self.elements, self.swaps]
         if "arrays of channels" in FEATURES:
@@ -68,17 +69,9 @@ class Networks(Choices):
         self.most_network = 3 if turns > 1 else 20 if self.chance(0.03) else 6
         self.random.choice(kinds)(indent)
 
-    def count(self, least=1):
-        """How many there are of something."""
-        return self.random.randint(least, self.most_network)
-
-    def replicator(self, name, count, base=0):
-        """PAR, with as many components."""
-        return ["PAR", name, "=", *self.constant(base).tokens, "FOR", str(count)]
-
     # -- pipelines
 
-    def pipeline(self, indent):
+    def pipeline(self, indent: int) -> None:
         """Puts a pipeline, whose stages are a PROC or in place."""
         c, stage, n, of, i, j = self.new_names(6)
         count, kind = self.random.choice((0, 1, 2, 3, self.count())), self.random.choice((INT, INT, BYTE))
@@ -98,7 +91,7 @@ class Networks(Choices):
             self.put(indent, channels)
         actuals = {"free": [i], "whole": [i, ",", c], "parts": [i, ",", c, "[", i, "]", ",", c, "[", i, "+", "1", "]"]}
 
-        def middle(inner):
+        def middle(inner: int) -> None:
             self.put(inner, self.replicator(of if way == "in place" else i, count))
             if way == "in place":
                 self.stage(inner + 2, pipe, [c, "[", of, "]"], [c, "[", of, "+", "1", "]"])
@@ -114,10 +107,10 @@ class Networks(Choices):
             ],
         )
 
-    def stage_procedure(self, indent, way, pipe, name, of):
+    def stage_procedure(self, indent: int, way: str, pipe: Pipe, name: str, of: str) -> None:
         """Puts a PROC that is a stage: its channels are free names, an array as a parameter, or two parameters."""
         c = pipe.channels
-        formals = {
+        formals: dict[str, list[str]] = {
             "free": [],
             "whole": [",", "[", "]", "CHAN", "OF", pipe.kind, c],
             "parts": [",", "CHAN", "OF", pipe.kind, c + ".in", ",", c + ".out"],
@@ -129,7 +122,7 @@ class Networks(Choices):
             self.stage(indent + 2, pipe, [c, "[", of, "]"], [c, "[", of, "+", "1", "]"])
         self.put(indent, [":"])
 
-    def stage(self, indent, pipe, into, out):
+    def stage(self, indent: int, pipe: Pipe, into: list[str], out: list[str]) -> None:
         """Puts what takes messages and gives others, until one is negative if it ends so."""
         n = pipe.value
         if pipe.ends:
@@ -169,7 +162,7 @@ SEQ {pipe.index} = 0 FOR {pipe.rounds}
             new=pipe.new,
         )
 
-    def source(self, indent, pipe):
+    def source(self, indent: int, pipe: Pipe) -> None:
         """Puts what sends messages into a pipeline."""
         c, j, rounds = pipe.channels, pipe.index, pipe.rounds
         heard = [it[0] for it in self.channels["in"] if it[1] == pipe.kind]
@@ -201,7 +194,7 @@ SEQ
         if pipe.ends:
             self.put(indent + 2, [c, "[", "0", "]", "!", *self.constant(-1).tokens])
 
-    def sink(self, indent, pipe, into):
+    def sink(self, indent: int, pipe: Pipe, into: list[str]) -> None:
         """Puts what takes messages from a pipeline."""
         self.puts(
             indent,
@@ -217,7 +210,7 @@ SEQ {pipe.index} = 0 FOR {pipe.rounds + pipe.ends}
 
     # -- rings
 
-    def ring(self, indent):
+    def ring(self, indent: int) -> None:
         """Puts a ring, in which one message goes round; seldom none is sent, so that all wait."""
         c, t, i, j = self.new_names(4)
         count, rounds = self.random.choice((2, 3, self.count(2))), self.count()
@@ -225,7 +218,7 @@ SEQ {pipe.index} = 0 FOR {pipe.rounds + pipe.ends}
         self.put(indent, ["[", str(count), "]", "CHAN", "OF", INT, c, ":"])
         is_stuck, self.is_stuck = self.is_stuck and self.chance(0.5), False
 
-        def first(inner):
+        def first(inner: int) -> None:
             self.puts(
                 inner,
                 f"""
@@ -234,7 +227,7 @@ SEQ
 """,
             )
             if not is_stuck:
-                self.put(inner + 2, [c, "[", "1", "]", "!", *self.int(1).tokens])
+                self.put(inner + 2, [c, "[", "1", "]", "!", *self.int_part(1).tokens])
             self.puts(
                 inner + 2,
                 f"""
@@ -248,7 +241,7 @@ SEQ {j} = 1 FOR {rounds - 1}
             )
             self.shown(inner + 2, [t])
 
-        def others(inner):
+        def others(inner: int) -> None:
             self.put(inner, self.replicator(i, count - 1, 1))
             self.puts(
                 inner + 2,
@@ -266,18 +259,18 @@ SEQ {j} = 0 FOR {rounds}
 
     # -- trees
 
-    def tree(self, indent):
+    def tree(self, indent: int) -> None:
         """Puts a tree, each node of which makes one value of its two children's."""
         c, x, y, i = self.new_names(4)
         count = self.count(2)
         leaf, node = self.over((i, (0, 255))), self.over(x, y)
         self.put(indent, ["[", str(2 * count), "]", "CHAN", "OF", INT, c, ":"])
 
-        def leaves(inner):
+        def leaves(inner: int) -> None:
             self.put(inner, self.replicator(i, count))
             self.put(inner + 2, [c, "[", str(count), "+", i, "]", "!", *leaf])
 
-        def nodes(inner):
+        def nodes(inner: int) -> None:
             self.put(inner, self.replicator(i, count - 1, 1))
             self.puts(
                 inner + 2,
@@ -292,7 +285,7 @@ SEQ
                 node=node,
             )
 
-        def root(inner):
+        def root(inner: int) -> None:
             self.puts(
                 inner,
                 f"""
@@ -307,7 +300,7 @@ SEQ
 
     # -- farms
 
-    def farm(self, indent):
+    def farm(self, indent: int) -> None:
         """Puts a farm: one component gives out work, several do it, and one collects what they made."""
         to, back, n, i, j, at = self.new_names(6)
         size = self.random.choice((None, None, 1, 2, 3, 5)) if "array messages" in FEATURES else None
@@ -332,7 +325,7 @@ SEQ
             ),
         )
 
-    def gives(self, indent, shop):
+    def gives(self, indent: int, shop: Farm) -> None:
         """Puts what gives out the work of a farm."""
         value = self.over((shop.index, (0, 255)), (shop.turn, (0, shop.rounds)), kind=shop.kind)
         self.puts(
@@ -357,7 +350,7 @@ SEQ
             value=value,
         )
 
-    def workers(self, indent, shop):
+    def workers(self, indent: int, shop: Farm) -> None:
         """Puts the workers of a farm."""
         n, i, x = shop.value, shop.index, shop.at + "x"
         self.put(indent, self.replicator(i, shop.count))
@@ -389,7 +382,7 @@ SEQ {shop.turn} = 0 FOR {shop.rounds}
             work=shop.work,
         )
 
-    def collects(self, indent, shop):
+    def collects(self, indent: int, shop: Farm) -> None:
         """Puts what collects the results of a farm."""
         n = shop.value
         self.puts(
@@ -406,7 +399,7 @@ SEQ {shop.turn} = 0 FOR {shop.rounds}
 
     # -- arrays of which each component has a part
 
-    def elements(self, indent):
+    def elements(self, indent: int) -> None:
         """Puts components each of which fills a part of an array, and then sends it: what looks like a clash, and is none."""
         a, i, j, k = self.new_names(4)
         kind, count, each = self.random.choice((INT, BYTE, BYTE, BOOL)), self.count(2), self.random.choice((1, 1, 2, 3))
@@ -426,28 +419,28 @@ SEQ {shop.turn} = 0 FOR {shop.rounds}
         element = [a, "[", k, "]"]
         self.shown(indent + 4, ["(", INT, *element, ")"] if kind == BOOL else element, BYTE if kind == BYTE else INT)
 
-    def part_of(self, parts, number):
+    def part_of(self, parts: Parts, number: int) -> list[Body]:
         """What puts the components that fill one part: one for each element, or one with an index."""
         base, a = number * parts.each, parts.array
         way = self.random.random()
         if way < 0.4:
-            return [
-                lambda inner, at=at: self.put(
-                    inner, [a, "[", str(at), "]", ":=", *self.over(*parts.shared, kind=parts.kind)]
-                )
-                for at in range(base, base + parts.each)
-            ]
+
+            def one(at: int) -> Body:
+                element = [a, "[", str(at), "]"]
+                return lambda inner: self.put(inner, [*element, ":=", *self.over(*parts.shared, kind=parts.kind)])
+
+            return [one(at) for at in range(base, base + parts.each)]
         start = self.random.choice((0, base, base, base + 1, 3)) if way < 0.8 else base
         off, j = base - start, parts.inner
         at = [j, "+", str(off)] if off > 0 else [j, "-", str(-off)] if off < 0 else [j]
 
-        def body(inner):
+        def body(inner: int) -> None:
             self.put(inner, ["SEQ", j, "=", str(start), "FOR", str(parts.each)])
             self.put(inner + 2, [a, "[", *at, "]", ":=", *self.over((j, (0, 100)), *parts.shared, kind=parts.kind)])
 
         return [body]
 
-    def computed_parts(self, indent, parts):
+    def computed_parts(self, indent: int, parts: Parts) -> None:
         """Puts a replicated PAR in which subscripts are made of its index."""
         i, j, each = parts.index, parts.inner, parts.each
         base = self.random.choice((0, 0, 1, 5))
@@ -464,18 +457,18 @@ SEQ {shop.turn} = 0 FOR {shop.rounds}
             value = self.over((i, (0, 100)), *parts.shared, kind=parts.kind)
             self.put(indent + 4, [parts.array, "[", *first, str(at), "]", ":=", *value])
 
-    def swaps(self, indent):
+    def swaps(self, indent: int) -> None:
         """Puts components that exchange what they have."""
         c, d, x, y = self.new_names(4)
         kind = self.random.choice((INT, INT, BYTE))
         first, is_stuck = self.chance(0.5), self.is_stuck and self.chance(0.5)
         self.is_stuck = self.is_stuck and not is_stuck
 
-        def side(mine, other, name, sends):
+        def side(mine: str, other: str, name: str, sends: bool) -> Body:
             lines = [f"{mine} ! {name}", f"{other} ? {name}.new"]
             lines = lines if sends else lines[::-1]
 
-            def body(inner):
+            def body(inner: int) -> None:
                 order = self.random.choice(("SEQ", "SEQ", "PAR"))
                 self.puts(
                     inner,

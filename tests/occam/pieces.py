@@ -1,8 +1,10 @@
 """What random occam programs are made of: sizes, names and signs, and parts of programs with what is known of them."""
 from dataclasses import dataclass
+from typing import NamedTuple
 
 from occam.values import BYTE, INT, MOST_NEGATIVE, MOST_POSITIVE
 
+Span = tuple[int, int]
 WHOLE, SMALL = (MOST_NEGATIVE, MOST_POSITIVE), (-10_000, 10_000)
 # What each program sends last at its first output, as BYTE and as INT.
 LAST = {BYTE: 0xEE, INT: 0x1EE7C0DE}
@@ -56,37 +58,9 @@ WEIGHTS = {
 SHARE = 0.75
 # What it leaves open: it is in programs if it is put there.
 OPEN = {"INT of BOOL"}
-NAMES = (
-    "x",
-    "y",
-    "z",
-    "n",
-    "count",
-    "total",
-    "a.b",
-    "value",
-    "x1",
-    "x2",
-    "last.byte",
-    "Sum",
-    "hash",
-    "flag",
-    "is.even",
-    "left",
-    "right",
-    "mask",
-    "w",
-    "v.0",
-    "difference.of.words",
-    "K",
-    "seen",
-    "digit",
-    "carry",
-    "p",
-    "q",
-    "step",
-    "bits",
-    "a.name.with.dots",
+NAMES = tuple(
+    "x y z n count total a.b value x1 x2 last.byte Sum hash flag is.even "
+    "left right mask w v.0 difference.of.words K seen digit carry p q step bits a.name.with.dots".split()
 )
 EDGES = (
     0,
@@ -110,34 +84,7 @@ EDGES = (
     MOST_POSITIVE,
     MOST_POSITIVE - 1,
 )
-SIGNS = {
-    "[",
-    "]",
-    "+",
-    "-",
-    "*",
-    "/",
-    "\\",
-    "/\\",
-    "\\/",
-    "><",
-    "<<",
-    ">>",
-    "=",
-    "<>",
-    "<",
-    ">",
-    "<=",
-    ">=",
-    ":=",
-    "?",
-    "!",
-    "&",
-    ",",
-    ":",
-    "(",
-    ")",
-}
+SIGNS = set("[ ] + - * / \\ /\\ \\/ >< << >> = <> < > <= >= := ? ! & , : ( )".split())
 OPERATORS = ("+", "-", "*", "/", "\\", "REM", "PLUS", "MINUS", "TIMES", "/\\", "\\/", "><", "<<", ">>", "+", "-", "*")
 REMARKS = ("", " ", " a remark", " x := 1", " 'not a character", ' "', " ü, ≤", "-- :")
 UNARY = "\0"
@@ -160,21 +107,54 @@ class Variable:
 
     name: str
     type: str
-    span: tuple[int, int] = WHOLE
+    span: Span = WHOLE
     is_free: bool = True
     # of an array: how many elements it has, or 0 if that isn't known where it is used; of an index: the array over which it goes
     size: int | None = None
     over: "Variable | None" = None
     is_constant: bool = False
 
+    @property
+    def length(self) -> int:
+        """How many elements an array has, or 0."""
+        return self.size or 0
+
+
+class Formal(NamedTuple):
+    """A formal of a PROC: its way, its type, and its size if it is an array."""
+
+    way: str
+    kind: str
+    size: int | None = None
+
+
+class Channel(NamedTuple):
+    """A channel: its name and type, and its link, or -1 if it is a formal."""
+
+    name: str
+    kind: str
+    link: int = -1
+
+
+class ArrayChannel(NamedTuple):
+    """A channel of arrays: its name, the type and size of its messages, and its link."""
+
+    name: str
+    kind: str
+    size: int
+    link: int
+
 
 @dataclass(eq=False)
 class Proc:
-    """A PROC: its name, its formals, each with its way, type and size, and what of the names around it its body uses, and may change."""
+    """A PROC: its name, its formals, and what of the names around it its body uses, and may change: those of channels by themselves."""
 
     name: str
-    formals: list[tuple[str, str, int | None]]
-    used: set["Variable | Proc"]
+    formals: list[Formal]
+    used: set["Variable | Proc | str"]
     type: str = "PROC"
     is_free: bool = False
     size: int | None = None
+
+
+Named = Variable | Proc

@@ -1,54 +1,57 @@
 """How random occam programs declare PROCs, of their own and some that people write, and use them."""
-from occam.pieces import FEATURES, Proc, Variable, WHOLE
+from typing import NamedTuple
+
+from occam.arrays import Arrays
+from occam.pieces import Channel, FEATURES, Formal, Named, Proc, Variable, WHOLE
 from occam.values import BOOL, BYTE, INT
 
 
-class Procedures:
+class Actual(NamedTuple):
+    """An actual of an instance: its tokens, and the variable or array that it names as a whole, or none."""
+
+    tokens: list[str]
+    variable: Variable | None = None
+
+
+class Procedures(Arrays):
     """The part of a writer of programs that is about PROCs."""
 
-    # -- PROC
-
-    def procedure(self, indent, nested):
+    def procedure(self, indent: int, nested: int) -> None:
         """Puts a PROC before a process."""
         if "written PROC" in FEATURES and self.weighs("written PROC"):
             self.written(indent)
         elif self.weighs("PROC") and self.rest > 10:
             self.made_procedure(indent, nested)
 
-    def formals(self):
+    def formals(self) -> list[Formal]:
         """Formals of all ways."""
-        formals, kinds = [], [kind for kind in (INT, BYTE, BOOL) if f"arrays of {kind}" in FEATURES]
+        formals: list[Formal] = []
+        kinds = [kind for kind in (INT, BYTE, BOOL) if f"arrays of {kind}" in FEATURES]
         for _ in range(self.random.choice((0, 1, 1, 2, 3, 4))):
             way = self.random.choice(("VAL", "VAL", "var", "out", "VAL array", "array", "fill", "send"))
             if way in ("VAL array", "array", "fill"):
                 if kinds:
                     size = self.random.choice((0, 0, 0, 1, 4, 5, 8))
-                    formals.append((way, self.random.choice(kinds), size))
+                    formals.append(Formal(way, self.random.choice(kinds), size))
             else:
                 formals.append(
-                    (way, self.random.choice((INT, INT, BYTE, BOOL) if way != "send" else (INT, BYTE)), None)
+                    Formal(way, self.random.choice((INT, INT, BYTE, BOOL) if way != "send" else (INT, BYTE)))
                 )
-        formals.sort(key=lambda it: it[1] if self.is_risky else it[0])
+        formals.sort(key=lambda it: it.kind if self.is_risky else it.way)
         return formals
 
     @staticmethod
-    def formal_type(formal):
+    def formal_type(formal: Formal) -> list[str]:
         way, kind, size = formal
         array = [] if size is None else ["[", *([str(size)] if size else []), "]"]
         return (["VAL"] if way.startswith("VAL") else []) + (["CHAN", "OF"] if way == "send" else []) + [*array, kind]
 
-    def made_procedure(self, indent, nested):
-        kept = (
-            [*self.variables],
-            set(self.assigned),
-            {it: [*side] for it, side in self.channels.items()},
-            self.rest,
-            self.most_turns,
-        )
-        around, formals, name, line = [*self.variables], self.formals(), self.new_name(True), len(self.lines)
-        tokens, before, names = ["PROC", name, "("], None, set()
+    def put_head(self, indent: int, name: str, formals: list[Formal]) -> list[tuple[str, Variable]]:
+        """Puts the first line of a PROC, and gives the variables among its formals, each with its way."""
+        tokens, names, variables = ["PROC", name, "("], set(), []
+        before: list[str] = []
         for formal in formals:
-            own = self.new_name(formal[0] == "send")
+            own = self.new_name(formal.way == "send")
             while own in names:
                 own = self.new_name(True)
             names.add(own)
@@ -57,21 +60,26 @@ class Procedures:
             before = type_tokens
             way, kind, size = formal
             if way == "send":
-                self.channels["out"].append((own, kind, None))
                 # twice, so that it is used
-                self.channels["out"].append((own, kind, None))
+                self.channels["out"] += [Channel(own, kind)] * 2
                 continue
             variable = Variable(own, kind, WHOLE, not way.startswith("VAL"), size)
+            variables.append((way, variable))
             self.variables.append(variable)
-            self.assigned.discard(variable)
             if way not in ("out", "fill"):
                 self.assigned.add(variable)
-        tokens = [*(tokens[:-1] if formals else tokens), ")"]
-        self.put(indent, tokens)
+        self.put(indent, [*(tokens[:-1] if formals else tokens), ")"])
+        return variables
+
+    def made_procedure(self, indent: int, nested: int) -> None:
+        around, assigned, rest, most_turns = [*self.variables], set(self.assigned), self.rest, self.most_turns
+        channels, names = {it: [*side] for it, side in self.channels.items()}, self.channel_names()
+        formals, name, line = self.formals(), self.new_name(True), len(self.lines)
+        variables = self.put_head(indent, name, formals)
         self.in_procs += 1
         self.rest, self.most_turns = self.random.choice((3, 6, 10, 15)), min(20, self.most_turns)
         self.put(indent + 2, ["SEQ"])
-        for (way, _, _), variable in zip([it for it in formals if it[0] != "send"], self.variables[len(around) :]):
+        for way, variable in variables:
             if way == "fill":
                 self.fill(indent + 4, variable)
             elif way == "out":
@@ -83,16 +91,14 @@ class Procedures:
         self.put(indent, [":"])
         written = {it for _, tokens in self.lines[line:] for it in tokens}
         last = {it.name: it for it in around}
-        used = {it for name, it in last.items() if name in written}
+        used: set[Named | str] = {it for name, it in last.items() if name in written}
         for it in [it for it in used if isinstance(it, Proc)]:
             used |= it.used
-        names = {side[0] for sides in (kept[2], self.array_channels) for every in sides.values() for side in every}
         used |= written & names
-        self.variables, self.assigned, self.channels, self.rest, self.most_turns = kept
-        self.rest -= 4
-        self.variables.append(Proc(name, formals, used))
+        self.assigned, self.channels, self.rest, self.most_turns = assigned, channels, rest - 4, most_turns
+        self.variables = [*around, Proc(name, formals, used)]
 
-    def written(self, indent):
+    def written(self, indent: int) -> None:
         """Puts one of some PROCs that people write."""
         name = self.new_name(True)
         names = [self.new_name(True) + ".w" for _ in range(5)]
@@ -100,129 +106,104 @@ class Procedures:
             return
         v, x, i, j, c = names
         last = self.random.choice((BYTE, INT))
+        shows = f"out.string ( {v} , {c} )" if "prelude" in FEATURES else "SKIP"
         every = {
             "sort": (
-                [("array", INT, 0)],
-                [
-                    (0, ["PROC", name, "(", "[", "]", INT, v, ")"]),
-                    (2, ["SEQ", i, "=", "1", "FOR", "(", "SIZE", v, ")", "-", "1"]),
-                    (4, ["SEQ", j, "=", "0", "FOR", "(", "SIZE", v, ")", "-", i]),
-                    (6, ["IF"]),
-                    (8, [v, "[", j, "]", ">", v, "[", j, "+", "1", "]"]),
-                    (10, [INT, x, ":"]),
-                    (10, ["SEQ"]),
-                    (12, [x, ":=", v, "[", j, "]"]),
-                    (12, [v, "[", j, "]", ":=", v, "[", j, "+", "1", "]"]),
-                    (12, [v, "[", j, "+", "1", "]", ":=", x]),
-                    (8, ["TRUE"]),
-                    (10, ["SKIP"]),
-                ],
+                [Formal("array", INT, 0)],
+                f"""
+PROC {name} ( [ ] INT {v} )
+  SEQ {i} = 1 FOR ( SIZE {v} ) - 1
+    SEQ {j} = 0 FOR ( SIZE {v} ) - {i}
+      IF
+        {v} [ {j} ] > {v} [ {j} + 1 ]
+          INT {x} :
+          SEQ
+            {x} := {v} [ {j} ]
+            {v} [ {j} ] := {v} [ {j} + 1 ]
+            {v} [ {j} + 1 ] := {x}
+        TRUE
+          SKIP
+""",
             ),
             "sort by names": (
-                [("array", BYTE, 0)],
-                [
-                    (0, ["PROC", name, "(", "[", "]", BYTE, v, ")"]),
-                    (2, ["SEQ", i, "=", "1", "FOR", "(", "SIZE", v, ")", "-", "1"]),
-                    (4, ["SEQ", j, "=", "0", "FOR", "(", "SIZE", v, ")", "-", i]),
-                    (6, ["VAL", x, "IS", v, "[", j, "]", ":"]),
-                    (6, ["VAL", c, "IS", v, "[", j, "+", "1", "]", ":"]),
-                    (6, ["IF"]),
-                    (8, [x, "<=", c]),
-                    (10, ["SKIP"]),
-                    (8, ["TRUE"]),
-                    (10, ["SKIP"]),
-                ],
+                [Formal("array", BYTE, 0)],
+                f"""
+PROC {name} ( [ ] BYTE {v} )
+  SEQ {i} = 1 FOR ( SIZE {v} ) - 1
+    SEQ {j} = 0 FOR ( SIZE {v} ) - {i}
+      VAL {x} IS {v} [ {j} ] :
+      VAL {c} IS {v} [ {j} + 1 ] :
+      IF
+        {x} <= {c}
+          SKIP
+        TRUE
+          SKIP
+""",
             ),
             "sum": (
-                [("VAL array", INT, 0), ("out", INT, None)],
-                [
-                    (0, ["PROC", name, "(", "VAL", "[", "]", INT, v, ",", INT, x, ")"]),
-                    (2, ["SEQ"]),
-                    (4, [x, ":=", "0"]),
-                    (4, ["SEQ", i, "=", "0", "FOR", "SIZE", v]),
-                    (6, [x, ":=", x, "PLUS", v, "[", i, "]"]),
-                ],
+                [Formal("VAL array", INT, 0), Formal("out", INT)],
+                f"""
+PROC {name} ( VAL [ ] INT {v} , INT {x} )
+  SEQ
+    {x} := 0
+    SEQ {i} = 0 FOR SIZE {v}
+      {x} := {x} PLUS {v} [ {i} ]
+""",
             ),
             "send": (
-                [("VAL array", last, 0), ("send", last, None)],
-                [
-                    (0, ["PROC", name, "(", "VAL", "[", "]", last, v, ",", "CHAN", "OF", last, c, ")"]),
-                    (2, ["SEQ", i, "=", "0", "FOR", "SIZE", v]),
-                    (4, [c, "!", v, "[", i, "]"]),
-                ],
+                [Formal("VAL array", last, 0), Formal("send", last)],
+                f"""
+PROC {name} ( VAL [ ] {last} {v} , CHAN OF {last} {c} )
+  SEQ {i} = 0 FOR SIZE {v}
+    {c} ! {v} [ {i} ]
+""",
             ),
             "reverse": (
-                [("array", last, 0)],
-                [
-                    (0, ["PROC", name, "(", "[", "]", last, v, ")"]),
-                    (2, ["SEQ", i, "=", "0", "FOR", "(", "SIZE", v, ")", "/", "2"]),
-                    (4, ["VAL", j, "IS", i, "+", "1", ":"]),
-                    (4, [last, x, ":"]),
-                    (4, ["SEQ"]),
-                    (6, [x, ":=", v, "[", i, "]"]),
-                    (6, [v, "[", i, "]", ":=", v, "[", "(", "SIZE", v, ")", "-", j, "]"]),
-                    (6, [v, "[", "(", "SIZE", v, ")", "-", j, "]", ":=", x]),
-                ],
+                [Formal("array", last, 0)],
+                f"""
+PROC {name} ( [ ] {last} {v} )
+  SEQ {i} = 0 FOR ( SIZE {v} ) / 2
+    VAL {j} IS {i} + 1 :
+    {last} {x} :
+    SEQ
+      {x} := {v} [ {i} ]
+      {v} [ {i} ] := {v} [ ( SIZE {v} ) - {j} ]
+      {v} [ ( SIZE {v} ) - {j} ] := {x}
+""",
             ),
             "swap": (
-                [("var", last, None), ("var", last, None)],
-                [
-                    (0, ["PROC", name, "(", last, x, ",", v, ")"]),
-                    (2, [last, i, ":"]),
-                    (2, ["SEQ"]),
-                    (4, [i, ":=", x]),
-                    (4, [x, ":=", v]),
-                    (4, [v, ":=", i]),
-                ],
+                [Formal("var", last), Formal("var", last)],
+                f"""
+PROC {name} ( {last} {x} , {v} )
+  {last} {i} :
+  SEQ
+    {i} := {x}
+    {x} := {v}
+    {v} := {i}
+""",
             ),
             "number": (
-                [("VAL", INT, None), ("send", BYTE, None)],
-                [
-                    (0, ["PROC", name, "(", "VAL", INT, x, ",", "CHAN", "OF", BYTE, c, ")"]),
-                    (2, ["[", "8", "]", BYTE, v, ":"]),
-                    (2, ["VAL", j, "IS", '"0123456789abcdef"', ":"]),
-                    (2, ["SEQ"]),
-                    (4, ["SEQ", i, "=", "0", "FOR", "SIZE", v]),
-                    (
-                        6,
-                        [
-                            v,
-                            "[",
-                            "7",
-                            "-",
-                            i,
-                            "]",
-                            ":=",
-                            j,
-                            "[",
-                            "(",
-                            x,
-                            ">>",
-                            "(",
-                            "4",
-                            "*",
-                            i,
-                            ")",
-                            ")",
-                            "/\\",
-                            "15",
-                            "]",
-                        ],
-                    ),
-                    (4, ["out.string", "(", v, ",", c, ")"] if "prelude" in FEATURES else ["SKIP"]),
-                ],
+                [Formal("VAL", INT), Formal("send", BYTE)],
+                f"""
+PROC {name} ( VAL INT {x} , CHAN OF BYTE {c} )
+  [ 8 ] BYTE {v} :
+  VAL {j} IS "0123456789abcdef" :
+  SEQ
+    SEQ {i} = 0 FOR SIZE {v}
+      {v} [ 7 - {i} ] := {j} [ ( {x} >> ( 4 * {i} ) ) /\\ 15 ]
+    {shows}
+""",
             ),
         }
-        formals, lines = every[self.random.choice(sorted(every))]
-        if not all(it[2] is None or f"arrays of {it[1]}" in FEATURES for it in formals):
+        formals, text = every[self.random.choice(sorted(every))]
+        if not all(it.size is None or f"arrays of {it.kind}" in FEATURES for it in formals):
             return
-        for further, tokens in lines:
-            self.put(indent + further, tokens)
+        self.puts(indent, text)
         self.put(indent, [":"])
-        self.rest += len(lines) // 2
+        self.rest += len(text.strip().splitlines()) // 2
         self.variables.append(Proc(name, formals, set()))
 
-    def call(self, indent):
+    def call(self, indent: int) -> bool:
         """Puts an instance of a PROC, if there is one, and says whether it did."""
         last = {it.name: it for it in self.variables}
         found = [
@@ -235,91 +216,73 @@ class Procedures:
         if not found:
             return False
         proc = self.random.choice(found)
-        hidden, frozen = self.hidden, self.frozen
-        actuals, after, named = [None] * len(proc.formals), [], set()
+        hidden, named = self.hidden, set[str]()
+        actuals: dict[int, Actual] = {}
         # those that are changed first, so that no other names them
-        order = sorted(range(len(actuals)), key=lambda it: proc.formals[it][0].startswith("VAL"))
+        order = sorted(range(len(proc.formals)), key=lambda it: proc.formals[it].way.startswith("VAL"))
         self.hidden = [*hidden, *(it for it in proc.used if isinstance(it, Variable))]
         for at in order:
-            actuals[at] = self.actual(proc.formals[at], proc, after, named)
-            if actuals[at] is None:
+            formal = proc.formals[at]
+            actual = self.actual(formal, proc, named)
+            if actual is None:
                 break
-            if proc.formals[at][0] != "send":
-                changed = not proc.formals[at][0].startswith("VAL")
-                tokens = actuals[at]
-                if changed:
-                    self.hidden += self.named_in(tokens)
-                    # the subscript's names can't change
-        self.hidden, self.frozen = hidden, frozen
-        if None in actuals:
+            actuals[at] = actual
+            if formal.way != "send" and not formal.way.startswith("VAL"):
+                self.hidden += self.named_in(actual.tokens)
+        self.hidden = hidden
+        if len(actuals) < len(proc.formals):
             return False
         tokens = [proc.name, "("]
-        for it in actuals:
-            tokens += [*it, ","]
+        for at in range(len(actuals)):
+            tokens += [*actuals[at].tokens, ","]
         self.put(indent, [*(tokens[:-1] if actuals else tokens), ")"])
-        self.assigned.update(after)
+        self.assigned.update(it.variable for it in actuals.values() if it.variable)
         return True
 
-    def actual(self, formal, proc, after, named):
+    def actual(self, formal: Formal, proc: Proc, named: set[str]) -> Actual | None:
         way, kind, size = formal
         if way == "send":
-            found = [
-                it[0] for it in self.channels["out"] if it[1] == kind and it[0] not in proc.used and it[0] not in named
-            ]
-            if not found:
+            out = [it.name for it in self.channels["out"] if it.kind == kind and it.name not in {*proc.used, *named}]
+            if not out:
                 return None
-            named.add(found[0])
-            return [self.random.choice(found[:1])]
+            named.add(out[0])
+            return Actual([self.random.choice(out[:1])])
         if way == "VAL":
-            return {INT: self.int, BYTE: self.byte, BOOL: self.bool}[kind](
-                self.random.choice((0, 1, self.depth))
-            ).tokens
+            return Actual(self.expression(kind, self.random.choice((0, 1, self.depth))).tokens)
         if size is None:
             elements = [it for it in self.filled(kind) if self.can_change(it) and it.span == WHOLE]
             if elements and self.chance(0.35) and "renamed elements" in FEATURES:
                 array = self.random.choice(elements)
-                return [array.name, "[", *self.index(array, [array]).tokens, "]"]
-            found = [
-                it
-                for it in (self.visible(kind) if way == "out" else self.readable(kind))
-                if self.can_change(it) and it.span == WHOLE
-            ]
+                return Actual([array.name, "[", *self.index(array, [array]).tokens, "]"])
+            known = self.visible(kind) if way == "out" else self.readable(kind)
+            found = [it for it in known if self.can_change(it) and it.span == WHOLE]
         elif way == "VAL array":
             found = [it for it in self.filled(kind) if size in (0, it.size)]
             if "tables" in FEATURES and (not found or self.chance(0.3)):
-                return self.table(kind, size)[0]
+                return Actual(self.table(kind, size)[0])
         else:
-            found = [
-                it
-                for it in (self.arrays(kind) if way == "fill" else self.filled(kind))
-                if size in (0, it.size) and self.can_change(it) and it.span == WHOLE
-            ]
+            known = self.arrays(kind) if way == "fill" else self.filled(kind)
+            found = [it for it in known if size in (0, it.size) and self.can_change(it) and it.span == WHOLE]
         if not found:
             return None
         chosen = self.random.choice(found)
-        after.append(chosen)
-        return [chosen.name]
+        return Actual([chosen.name], chosen)
 
-    def known_call(self, indent):
+    def known_call(self, indent: int) -> bool:
         """Puts an instance of what each program knows, and says whether it did."""
-        found = [it[0] for it in self.channels["out"] if it[1] == BYTE]
+        found = [it.name for it in self.channels["out"] if it.kind == BYTE]
         if not found or "prelude" not in FEATURES:
             return False
         if self.chance(0.5):
-            part = self.int(self.random.choice((0, 0, 1, self.depth)))
+            part = self.int_part(self.random.choice((0, 0, 1, self.depth)))
             self.put(indent, ["out.int", "(", *part.tokens, ",", self.random.choice(found), ")"])
             return True
         texts = [[it.name] for it in self.filled(BYTE)]
-        tokens = (
-            self.random.choice(texts)
-            if texts and self.chance(0.6)
-            else self.table(BYTE)[0]
-            if "tables" in FEATURES
-            else None
-        )
-        if tokens:
-            self.put(indent, ["out.string", "(", *tokens, ",", self.random.choice(found), ")"])
-        return tokens is not None
-
-    def readable(self, kind):
-        return [it for it in self.visible(kind) if it in self.assigned]
+        if texts and self.chance(0.6):
+            tokens = self.random.choice(texts)
+        elif "tables" in FEATURES:
+            tokens = self.table(BYTE)[0]
+        else:
+            return False
+        self.put(indent, ["out.string", "(", *tokens, ",", self.random.choice(found), ")"])
+        return True

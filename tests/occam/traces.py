@@ -2,15 +2,19 @@
 in which it has a part, in their order. So each has its partner in the end, and what comes is the same however they take turns."""
 from dataclasses import dataclass
 
+from collections.abc import Sequence
+from typing import NamedTuple
+
+from occam.components import Body, Components
 from occam.pieces import FEATURES, Variable, WHOLE
-from occam.values import BYTE, INT
+from occam.values import BOOL, BYTE, INT
 
 
 @dataclass(eq=False)
 class Link:
     """A channel of a network: the tokens of its name, its type, the size of its messages if they are arrays, and who uses it."""
 
-    tokens: list
+    tokens: list[str]
     kind: str
     size: int | None
     sender: int
@@ -24,119 +28,162 @@ class Vector:
     name: str
     kind: str
     hub: int
-    ends: list
+    ends: list[int]
     is_sender: bool
 
 
 @dataclass(eq=False)
 class Item:
-    """What is done at one time: a `message` by a link, what is `local` to a component, a `vector` of messages, a `loop` of items with
-    the tokens of its count and how often it is at most, or a `split` of a component that does two lists of items at the same time.
-    """
+    """What is done at one time by some components: by itself, what is local to one."""
 
-    way: str
-    who: set
-    link: object = None
-    items: tuple = ()
-    count: tuple = ()
+    who: set[int]
 
 
-class Traces:
+@dataclass(eq=False)
+class Message(Item):
+    """A message by a link."""
+
+    link: Link
+
+
+@dataclass(eq=False)
+class Several(Item):
+    """A message by each channel of an array."""
+
+    vector: Vector
+
+
+@dataclass(eq=False)
+class Loop(Item):
+    """Items that are done again and again, and the tokens of how often."""
+
+    items: list[Item]
+    count: list[str]
+
+
+@dataclass(eq=False)
+class Split(Item):
+    """Two lists of messages, which one component does at the same time, and all of them in the order of the others."""
+
+    one: int
+    sides: list[list[Message]]
+    merged: list[Message]
+
+
+def who_of(items: Sequence[Item]) -> set[int]:
+    """Who has a part in items."""
+    return {it for item in items for it in item.who}
+
+
+class Network(NamedTuple):
+    """The channels of a network, by themselves and in arrays, and the item that is left out of it with the component that leaves it out, or
+    none."""
+
+    links: list[Link]
+    vectors: list[Vector]
+    left_out: tuple[Item, int] | None = None
+
+
+class Traces(Components):
     """The part of a writer of programs that is about networks made from messages."""
 
-    # the channels of the network that is put, what is left out of it and by whom, and by which channels a part of a component hears
-    links, vectors, left_out, heard_here = None, None, None, None
+    # the network that is put, and by which channels a part of a component hears
+    traced_network = Network([], [])
+    heard_here: list[Link] | None = None
 
-    def traced(self, indent, turns, nested):
+    def traced(self, indent: int, turns: int, nested: int) -> None:
         """Puts a network with its channels."""
         count = self.random.choice((2, 2, 3, 3, 4))
         division = self.divided(count)
-        kept = self.links, self.vectors, self.left_out, self.heard_here
-        self.links, self.vectors, self.left_out, self.heard_here = [], [], None, None
+        kept = self.traced_network, self.heard_here
+        self.traced_network, self.heard_here = Network([], []), None
         known = [it.name for it in self.readable(INT) if division.variables.get(it) is None]
         items = self.items(range(count), self.random.choice((2, 3, 4, 6)), known, 0, turns)
-        messages = [it for it in items if it.way == "message"]
+        messages = [it for it in items if isinstance(it, Message)]
         if self.is_stuck and messages:
             self.is_stuck, chosen = False, self.random.choice(messages)
-            self.left_out = chosen, self.random.choice(sorted(chosen.who))
+            left_out = chosen, self.random.choice(sorted(chosen.who))
+            self.traced_network = self.traced_network._replace(left_out=left_out)
         self.declare_links(indent)
         self.components(indent, [self.part(it, items, turns, nested) for it in range(count)], division)
-        self.links, self.vectors, self.left_out, self.heard_here = kept
+        self.traced_network, self.heard_here = kept
 
     # -- what happens
 
-    def items(self, members, count, known, depth, turns):
+    def items(self, members: Sequence[int], count: int, known: list[str], depth: int, turns: int) -> list[Item]:
         """Some items of components: messages, loops and what is local."""
-        made = []
+        made: list[Item] = []
         for _ in range(count):
             way = self.random.random()
             if way < 0.15:
-                made.append(Item("local", {self.random.choice(members)}))
+                made.append(Item({self.random.choice(members)}))
             elif way < 0.35 and depth < 2 and turns < 10:
                 many = self.random.choice((1, 2, 2, 3, 4))
                 tokens = [str(many)]
                 if known and self.chance(0.3):
                     many, tokens = 3, ["(", self.random.choice(known), "/\\", "3", ")"]
                 inner = self.items(members, self.random.choice((1, 2, 3)), known, depth + 1, turns * many)
-                made.append(
-                    Item("loop", set().union(*(it.who for it in inner)), items=tuple(inner), count=tuple(tokens))
-                )
+                made.append(Loop(who_of(inner), inner, tokens))
             elif way < 0.5 and len(members) > 2 and "arrays of channels" in FEATURES:
                 made.append(self.vector_item(members))
             elif way < 0.6 and depth == 0:
                 made.append(self.split(members, known, turns))
             else:
-                made.append(self.message(*self.random.sample(list(members), 2)))
+                sender, receiver = self.random.sample(list(members), 2)
+                made.append(self.message(sender, receiver))
         return made
 
-    def message(self, sender, receiver, is_new=False):
-        same = [it for it in self.links if (it.sender, it.receiver) == (sender, receiver)]
-        if not same or is_new or self.chance(0.3):
+    def message(self, sender: int, receiver: int, links: list[Link] | None = None) -> Message:
+        """A message by one of these links, or of those of the network."""
+        links = self.traced_network.links if links is None else links
+        same = [it for it in links if (it.sender, it.receiver) == (sender, receiver)]
+        if not same or self.chance(0.3):
             kind = self.random.choice((INT, INT, BYTE))
             size = (
                 self.random.choice((1, 2, 3, 4, 5, 8)) if self.chance(0.25) and "array messages" in FEATURES else None
             )
             same = [Link([], kind, size, sender, receiver)]
-            self.links += same
-        return Item("message", {sender, receiver}, self.random.choice(same))
+            links += same
+        return Message({sender, receiver}, self.random.choice(same))
 
-    def vector_item(self, members):
+    def vector_item(self, members: Sequence[int]) -> Several:
         """One component sends to several others, or receives from them, by an array of channels."""
         hub = self.random.choice(members)
         others = [it for it in members if it != hub]
         is_sender = self.chance(0.5)
-        same = [it for it in self.vectors if it.hub == hub and it.is_sender == is_sender]
+        same = [it for it in self.traced_network.vectors if it.hub == hub and it.is_sender == is_sender]
         if not same or self.chance(0.5):
             ends = [self.random.choice(others) for _ in range(self.random.choice((2, 3, 4, 5)))]
-            same = [Vector(*self.new_names(1), self.random.choice((INT, BYTE)), hub, ends, is_sender)]
-            self.vectors += same
+            name = self.new_names(1)[0]
+            same = [Vector(name, self.random.choice((INT, BYTE)), hub, ends, is_sender)]
+            self.traced_network.vectors.extend(same)
         vector = self.random.choice(same)
-        return Item("vector", {vector.hub, *vector.ends}, vector)
+        return Several({vector.hub, *vector.ends}, vector)
 
-    def split(self, members, known, turns):
+    def split(self, members: Sequence[int], known: list[str], turns: int) -> Split:
         """A component that does two lists of items at the same time, with channels that nothing else uses."""
         who = self.random.choice(members)
-        sides, kept = [], self.links
+        sides: list[list[Message]] = []
         for _ in range(2):
-            self.links, others = [], [it for it in members if it != who]
-            made = []
+            links: list[Link] = []
+            others, made = [it for it in members if it != who], []
             for _ in range(self.random.choice((1, 1, 2))):
                 pair = [who, self.random.choice(others)]
                 self.random.shuffle(pair)
-                made.append(self.message(*pair))
-            sides.append(tuple(made))
-            kept = [*kept, *self.links]
-        self.links = kept
+                made.append(self.message(pair[0], pair[1], links))
+            sides.append(made)
+            self.traced_network.links.extend(links)
         merged = [*sides[0], *sides[1]] if self.chance(0.5) else [*sides[1], *sides[0]]
-        return Item("split", {who, *set().union(*(it.who for it in merged))}, who, (sides[0], sides[1], tuple(merged)))
+        return Split(who_of(merged), who, sides, merged)
 
     # -- what is written
 
-    def declare_links(self, indent):
+    def declare_links(self, indent: int) -> None:
         """Puts the declarations of all channels, of which some are in arrays."""
-        kinds = sorted({(it.kind, it.size or 0) for it in self.links})
+        links, vectors, _ = self.traced_network
+        kinds = sorted({(it.kind, it.size or 0) for it in links})
         for kind, size in kinds:
-            same = [it for it in self.links if (it.kind, it.size or 0) == (kind, size)]
+            same = [it for it in links if (it.kind, it.size or 0) == (kind, size)]
             message = ["CHAN", "OF", *(["[", str(size), "]"] if size else []), kind]
             is_array = self.chance(0.4) and "arrays of channels" in FEATURES
             names = self.new_names(1 if is_array else len(same))
@@ -149,13 +196,13 @@ class Traces:
                 it.tokens = [name]
             tokens = [token for name in names for token in (name, ",")]
             self.put(indent, [*message, *tokens[:-1], ":"])
-        for it in self.vectors:
-            self.put(indent, ["[", str(len(it.ends)), "]", "CHAN", "OF", it.kind, it.name, ":"])
+        for vector in vectors:
+            self.put(indent, ["[", str(len(vector.ends)), "]", "CHAN", "OF", vector.kind, vector.name, ":"])
 
-    def part(self, who, items, turns, nested):
+    def part(self, who: int, items: list[Item], turns: int, nested: int) -> Body:
         """What puts the component with this number."""
 
-        def body(indent):
+        def body(indent: int) -> None:
             self.own_variables(indent, who)
             self.put(indent, ["SEQ"])
             for it in items:
@@ -163,40 +210,40 @@ class Traces:
 
         return body
 
-    def own_variables(self, indent, who):
+    def own_variables(self, indent: int, who: int) -> None:
         """Declares what the messages of a component need."""
-        kinds = {(it.kind, it.size or 0) for it in self.links if it.receiver == who}
-        kinds |= {
-            (it.kind, 0) for it in self.vectors if it.is_sender and who in it.ends or not it.is_sender and it.hub == who
-        }
+        links, vectors, _ = self.traced_network
+        kinds = {(it.kind, it.size or 0) for it in links if it.receiver == who}
+        kinds |= {(it.kind, 0) for it in vectors if (who in it.ends if it.is_sender else it.hub == who)}
         for kind, size in sorted(kinds):
             variable = Variable(self.new_name(True), kind, WHOLE, True, size or None)
             self.put(indent, [*(["[", str(size), "]"] if size else []), kind, variable.name, ":"])
             self.variables.append(variable)
 
-    def item(self, indent, who, item, turns, nested):
+    def item(self, indent: int, who: int, item: Item, turns: int, nested: int) -> None:
         """Puts what a component does of an item."""
-        if who not in item.who or self.left_out and self.left_out[0] is item and self.left_out[1] == who:
+        if who not in item.who or (item, who) == self.traced_network.left_out:
             return
-        if item.way == "local":
-            self.scoped(self.process, indent, turns, nested)
-        elif item.way == "message":
+        if isinstance(item, Message):
             (self.sends if who == item.link.sender else self.receives)(indent, item.link, who)
-        elif item.way == "vector":
-            self.by_vector(indent, who, item.link)
-        elif item.way == "loop":
+        elif isinstance(item, Several):
+            self.by_vector(indent, who, item.vector)
+        elif isinstance(item, Loop):
             self.loop_of(indent, who, item, turns, nested)
-        elif who == item.link:
+        elif not isinstance(item, Split):
+            with self.scope():
+                self.process(indent, turns, nested)
+        elif who == item.one:
             self.at_once(indent, who, item)
         else:
-            for it in item.items[2]:
+            for it in item.merged:
                 self.item(indent, who, it, turns, nested)
 
-    def at_once(self, indent, who, item):
+    def at_once(self, indent: int, who: int, item: Split) -> None:
         """Puts the two lists of items of a split."""
 
-        def side(items):
-            def body(inner):
+        def side(items: list[Message]) -> Body:
+            def body(inner: int) -> None:
                 self.heard_here = [it.link for it in items if it.link.receiver == who]
                 self.put(inner, ["SEQ"])
                 for it in items:
@@ -207,18 +254,14 @@ class Traces:
 
         division = self.divided(2)
         # what each hears must have a variable
-        for number, items in enumerate(item.items[:2]):
-            for it in items:
-                if it.link.receiver == who:
-                    found = [
-                        v
-                        for v in division.variables
-                        if (v.type, v.size) == (it.link.kind, it.link.size) and v.span == WHOLE
-                    ]
-                    division.variables.update({v: number for v in found[number : number + 1]})
-        self.components(indent, [side(it) for it in item.items[:2]], division)
+        for number, items in enumerate(item.sides):
+            for link in (it.link for it in items if it.link.receiver == who):
+                wanted = (link.kind, link.size, WHOLE)
+                found = [it for it in division.variables if (it.type, it.size, it.span) == wanted]
+                division.variables.update({it: number for it in found[number : number + 1]})
+        self.components(indent, [side(it) for it in item.sides], division)
 
-    def loop_of(self, indent, who, item, turns, nested):
+    def loop_of(self, indent: int, who: int, item: Loop, turns: int, nested: int) -> None:
         """Puts a loop of items."""
         most = 4
         before = set(self.assigned)
@@ -248,9 +291,9 @@ class Traces:
 
     # -- messages
 
-    def sends(self, indent, link, _):
+    def sends(self, indent: int, link: Link, _: int) -> None:
         if link.size is None:
-            part = self.int(self.depth) if link.kind == INT else self.byte(self.depth)
+            part = self.int_part(self.depth) if link.kind == INT else self.byte_part(self.depth)
             self.put(indent, [*link.tokens, "!", *part.tokens])
             return
         found = [it.name for it in self.filled(link.kind) if it.size == link.size]
@@ -258,7 +301,7 @@ class Traces:
         tokens = [self.random.choice(found)] if is_named else self.table(link.kind, link.size)[0]
         self.put(indent, [*link.tokens, "!", *tokens])
 
-    def place_for(self, kind, size=None):
+    def place_for(self, kind: str, size: int | None = None) -> tuple[list[str] | None, Variable | None]:
         """A variable, or an element, into which a message may come: its tokens, and what is assigned by it, or none."""
         whole = [
             it
@@ -274,7 +317,7 @@ class Traces:
         chosen = self.random.choice(whole)
         return [chosen.name], chosen
 
-    def receives(self, indent, link, who):
+    def receives(self, indent: int, link: Link, who: int) -> None:
         """Puts an input, by itself or as the one guard of an ALT that can be ready."""
         tokens, variable = self.place_for(link.kind, link.size)
         if tokens is None:
@@ -288,19 +331,18 @@ class Traces:
         if variable:
             self.assigned.add(variable)
 
-    def waits_for(self, indent, link, tokens, who):
+    def waits_for(self, indent: int, link: Link, tokens: list[str], who: int) -> None:
         """Puts an ALT in which one guard alone can be ready."""
-        guards = [
-            [*self.random.choice(([], [], ["TRUE", "&"], ["(", "1", "<", "2", ")", "&"])), *link.tokens, "?", *tokens]
-        ]
+        conditions: tuple[list[str], ...] = ([], [], ["TRUE", "&"], ["(", "1", "<", "2", ")", "&"])
+        guards = [[*self.random.choice(conditions), *link.tokens, "?", *tokens]]
         known = [it.name for it in self.readable(INT)]
-        flags = [it.name for it in self.readable("BOOL")]
+        flags = [it.name for it in self.readable(BOOL)]
         false = [
             ["FALSE"],
             *([it, "<>", it] for it in known[:2]),
             *(["(", it, "AND", "(", "NOT", it, ")", ")"] for it in flags[:2]),
         ]
-        others = self.heard_here or [it for it in self.links if it.receiver == who]
+        others = self.heard_here or [it for it in self.traced_network.links if it.receiver == who]
         for _ in range(self.random.choice((0, 1, 1, 2, 3)) if others else 0):
             other = self.random.choice(others)
             place, _ = self.place_for(other.kind, other.size)
@@ -317,12 +359,12 @@ class Traces:
             kept = self.random.choice([["SKIP"], ["STOP"]]) if guard is not right else ["SKIP"]
             self.put(indent + 4, kept)
 
-    def by_vector(self, indent, who, vector):
+    def by_vector(self, indent: int, who: int, vector: Vector) -> None:
         """Puts one side of the messages by an array of channels."""
         if who != vector.hub:
-            for at, end in enumerate(vector.ends):
+            for number, end in enumerate(vector.ends):
                 if end == who:
-                    link = Link([vector.name, "[", str(at), "]"], vector.kind, None, vector.hub, who)
+                    link = Link([vector.name, "[", str(number), "]"], vector.kind, None, vector.hub, who)
                     (self.receives if vector.is_sender else self.sends)(indent, link, who)
             return
         base = self.random.choice((0, 0, 0, 1, 2, -3))
@@ -340,7 +382,7 @@ class Traces:
         self.assigned = before
         self.variables.remove(index)
 
-    def says_where(self, indent, vector, at):
+    def says_where(self, indent: int, vector: Vector, at: list[str]) -> bool:
         """Puts an input to a BYTE that says before by which channel of an array the message comes, if there is such a variable, and
         says whether it did."""
         found = [it for it in self.visible(BYTE) if it.size is None and it.span == WHOLE and self.can_change(it)]

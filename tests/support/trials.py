@@ -50,6 +50,10 @@ def put(path: str, what: str | bytes) -> str:
     return path
 
 
+# The program with which a student's page begins: it adds one to each letter.
+NEXT = text_of(f"{TOP}/nadzsumek/web/static/student.js").split("`")[1]
+
+
 def names_in(folder: str) -> list[str]:
     """The names of the texts of a folder, without their ending."""
     return sorted(it[:-5] for it in os.listdir(folder) if it.endswith(".farm"))

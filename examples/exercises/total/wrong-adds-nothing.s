@@ -1,7 +1,7 @@
-        local word sum
+        local word last
         ajw 8
         ldc 0
-        stl sum
+        stl last
 again:  ldlp word
         mint
         ldnlp 5
@@ -10,11 +10,9 @@ again:  ldlp word
         ldl word
         cj done
         ldl word
-        ldl sum
-        diff
-        stl sum
+        stl last
         j again
 done:   mint
-        ldl sum
+        ldl last
         outword
         stopp
