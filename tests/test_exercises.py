@@ -405,7 +405,7 @@ def test_guides_quote_the_exercises() -> None:
         name: place for name, place in exercises_in(EXERCISES).items() if os.path.isdir(place) and name != "total"
     }
     for name, place in folders.items():
-        rows = [it for page in pages for it in re.findall(rf"^\| `{name}` \| (.*?) \| .*\|$", page, re.MULTILINE)]
+        rows = [it for page in pages for it in re.findall(rf"^- `{name}`: (.*?) \*Help:\* .*$", page, re.MULTILINE)]
         assert (name, rows) == (name, [task_of(place)])
         assert len([it for it in os.listdir(place) if it.startswith("wrong-")]) >= 2, name
     nodes = {name for name, place in folders.items() if exercise_in(place).machine.nodes > 1}
