@@ -108,7 +108,9 @@ fn begins_with(file: &File, head: &[u8]) -> io::Result<bool> {
     let mut bytes = [0u8; 512];
     let mut done = 0;
     for _ in 0..=head.len() {
-        let (_, left) = head.split_at(done);
+        let Some(left) = head.get(done..) else {
+            break;
+        };
         let count = file.read_at(&mut bytes, done as u64)?.min(left.len());
         if count == 0 {
             break;
@@ -116,7 +118,7 @@ fn begins_with(file: &File, head: &[u8]) -> io::Result<bool> {
         if bytes.get(..count) != left.get(..count) {
             return Ok(false);
         }
-        done += count;
+        done = done.saturating_add(count);
     }
     Ok(true)
 }

@@ -71,14 +71,36 @@ impl<R: Wait, N: Notices> ReplayWatch for RecordProgress<'_, R, N> {
     }
 }
 
-/// A reader that reports how much was read. Nothing is reported of a record of 16 MiB or less.
+/// How much of a record was read. Nothing is reported of a record of 16 MiB or less.
+#[derive(Clone, Copy)]
+pub(crate) struct BytesRead {
+    /// How many bytes the record has.
+    length: u64,
+    // How many were read.
+    read: u64,
+}
+
+impl BytesRead {
+    /// Nothing is read of a record of this length.
+    pub(crate) fn none_of(length: u64) -> BytesRead {
+        BytesRead { length, read: 0 }
+    }
+
+    // Counts bytes that were read, and reports each 16 MiB.
+    fn count<R: Wait, N: Notices>(&mut self, progress: &RecordProgress<'_, R, N>, bytes: usize) {
+        let before = self.read / BYTES_BETWEEN;
+        self.read = self.read.saturating_add(bytes as u64);
+        if self.length > BYTES_BETWEEN && self.read / BYTES_BETWEEN > before {
+            let _ = progress.tell_bytes(self.read, self.length);
+        }
+    }
+}
+
+/// A reader that reports how much was read.
 pub(crate) struct ReportingReader<'a, 'b, R: Wait, N: Notices, I: Read + Drop> {
     pub(crate) input: I,
     pub(crate) progress: &'b RecordProgress<'a, R, N>,
-    /// How many bytes the record has.
-    pub(crate) length: u64,
-    /// How many were read.
-    pub(crate) read: u64,
+    pub(crate) count: BytesRead,
 }
 
 // Dropped by hand, since a derived `Drop` makes callers prove the drop of each field.
@@ -87,20 +109,8 @@ impl<R: Wait, N: Notices, I: Read + Drop> Drop for ReportingReader<'_, '_, R, N,
         let ReportingReader {
             input: _,
             progress: _,
-            length: _,
-            read: _,
+            count: _,
         } = self;
-    }
-}
-
-impl<R: Wait, N: Notices, I: Read + Drop> ReportingReader<'_, '_, R, N, I> {
-    // Counts bytes that were read, and reports each 16 MiB.
-    fn count(&mut self, bytes: usize) {
-        let before = self.read / BYTES_BETWEEN;
-        self.read = self.read.saturating_add(bytes as u64);
-        if self.length > BYTES_BETWEEN && self.read / BYTES_BETWEEN > before {
-            let _ = self.progress.tell_bytes(self.read, self.length);
-        }
     }
 }
 
@@ -109,7 +119,7 @@ impl<R: Wait, N: Notices, I: Read + Drop> Read for ReportingReader<'_, '_, R, N,
 
     fn read(&mut self, buf: &mut [u8]) -> io::Result<usize> {
         let count = self.input.read(buf)?;
-        self.count(count);
+        self.count.count(self.progress, count);
         Ok(count)
     }
 }

@@ -5,7 +5,7 @@ ghost use Rattle.farm_records.specs.RecordText.{record_text, lines_of};
 use crate::finding::FoundRecord;
 use crate::meter::ReplayMeter;
 use crate::notices::Notices;
-use crate::progress::{RecordProgress, ReportingReader};
+use crate::progress::{BytesRead, RecordProgress, ReportingReader};
 use crate::record_file::{RecordFile, RecordPlace};
 use domain_core::NoMemory;
 use farm_records::{RecordFault, Redone, redo_record};
@@ -54,8 +54,7 @@ fn redo_file<R: Wait, N: Notices>(
         let input = ReportingReader {
             input: file,
             progress,
-            length,
-            read: 0,
+            count: BytesRead::none_of(length),
         };
         let mut reader = BufReader::new(alloc, input).map_err(RecordFault::of_read)?;
         redo_record(alloc, progress, &mut reader, head, domain)?

@@ -9,7 +9,7 @@ use crate::record_file::{RecordFile, RecordPlace, record_path};
 use crate::redoing::{FileSource, RecordHistory};
 use domain_core::NoMemory;
 use farm_records::RecordFault;
-use farm_service::{Service, Session};
+use farm_service::{History, Service, Session};
 use record_keeping::DomainRecord;
 use std::alloc::Global;
 use std::fs::{File, Files};
@@ -45,6 +45,22 @@ pub struct ReplayOutputs<'a, K, N> {
     pub meter: &'a ReplayMeter,
     /// Where notices go.
     pub errors: &'a N,
+}
+
+// Lets a domain enter with a history. If these aren't the sessions of all its users, nothing is done.
+fn enter<R: Wait, H: History>(
+    rt: &R,
+    service: &Service,
+    domain: u8,
+    history: &mut H,
+    sessions: &mut [Session<'_>],
+)
+    ensures { AreInOrder domain sessions.old → AreInOrder domain sessions.new }
+{
+    match service.enter(rt, domain, history, sessions) {
+        Ok(_) => {}
+        Err(_) => {}
+    }
 }
 
 /// What is to be replayed of a domain, if anything is.
@@ -110,7 +126,7 @@ impl<'a, F: Files<File = File>> FileReplay<'a, F> {
         } = outputs;
         let source = FileSource::new(self.alloc, *errors, *meter, &found, file, place);
         let mut history = RecordHistory::new(self.alloc, source);
-        let _ = service.enter(rt, domain, &mut history, sessions);
+        enter(rt, service, domain, &mut history, sessions);
         match history.into_taken() {
             Ok(taken) => *record.lock(rt) = taken,
             Err(RecordFault::Ended) => {}
