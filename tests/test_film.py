@@ -24,7 +24,8 @@ import pytest
 import tomllib
 from support.browser import Browser, is_there
 from support.live_lines import PINGS, PINGS_PLAN, Live
-from support.trials import EXAMPLES, HELPED_NAMES, LAB, PLAIN_NAMES, STORED, STORED_RUN, TOP, contents, program, run
+from support.recorded import lab
+from support.trials import EXAMPLES, HELPED_NAMES, PLAIN_NAMES, STORED, STORED_RUN, TOP, contents, run
 
 PICTURES = os.environ.get("PICTURES")
 PAGE = Path(TOP, "nadzsumek/film")
@@ -62,11 +63,6 @@ SHOWN = """(() => {
 # What stands out of its box, or makes the page wider than the window.
 CUT = """[...document.querySelectorAll("html, header, section, #lanes, #hosts, #nodes, .registers, td")]
   .filter((it) => it.scrollWidth > it.clientWidth + 1).map((it) => it.tagName + " " + it.id + ": " + it.textContent.slice(0, 40))"""
-
-
-def lab(words: list[str], text: bytes = b"") -> tuple[int | None, str, str]:
-    status, out, errors = run([LAB, *words], text)
-    return status, out.decode(), errors.decode()
 
 
 @pytest.fixture(name="browser", scope="module")

@@ -15,10 +15,8 @@ from concurrent.futures import ThreadPoolExecutor
 import pytest
 from support.live_lines import PLAN
 from support.trials import (
-    PLAIN_NAMES,
-    STORED_RUN,
+    RUNS,
     TOP,
-    WORKERS,
     by_workers,
     contents,
     example,
@@ -31,11 +29,6 @@ from support.trials import (
 )
 
 SECONDS_TO_END = 60
-RUNS = [
-    pytest.param(name, count, marks=[] if (name, count) == (STORED_RUN, 2) else pytest.mark.long)
-    for name in PLAIN_NAMES
-    for count in WORKERS
-]
 MEMORY = (5, b"", b"memory\n")
 
 

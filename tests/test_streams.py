@@ -12,9 +12,8 @@ import pytest
 from support.live_lines import PLAN
 from support.trials import (
     MOST_SECONDS,
-    PLAIN_NAMES,
+    RUNS,
     STORED_RUN,
-    WORKERS,
     Ran,
     by_workers,
     example,
@@ -47,12 +46,7 @@ ann config badcommand
 ann collect 0 -
 """
 IO = (6, b"", b"io\n")
-# Each text with each number of workers, of which the gate has one, and the texts that fail after each byte.
-RUNS = [
-    pytest.param(name, count, marks=[] if (name, count) == (STORED_RUN, 2) else pytest.mark.long)
-    for name in PLAIN_NAMES
-    for count in WORKERS
-]
+# The texts that fail after each byte.
 BYTEWISE = [SMALL, pytest.param(STORED_RUN, marks=pytest.mark.long)]
 
 

@@ -9,6 +9,7 @@ import subprocess
 from collections.abc import Callable, Iterator
 from typing import NamedTuple
 
+import pytest
 from tree import TOP as TOP
 
 EXAMPLES = f"{TOP}/examples"
@@ -69,6 +70,12 @@ class Example(NamedTuple):
 # Each example for `farm`, and its stored run.
 STORED_RUN = "the stored run"
 PLAIN_NAMES = (*names_in(EXAMPLES), STORED_RUN)
+# Each example with each number of workers, of which the gate has one.
+RUNS = [
+    pytest.param(name, count, marks=[] if (name, count) == (STORED_RUN, 2) else pytest.mark.long)
+    for name in PLAIN_NAMES
+    for count in WORKERS
+]
 # The examples of programs/ and occam/, whose lines `lab expand` spells out.
 HELPED_NAMES = tuple(f"{folder}/{it}" for folder in HELPED for it in names_in(f"{EXAMPLES}/{folder}"))
 
