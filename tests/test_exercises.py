@@ -366,7 +366,11 @@ def test_the_wall_is_no_event() -> None:
         done = it.call("wall", "--once", it.folder)
         assert (done.returncode, done.stderr) == (0, "")
         assert done.stdout.splitlines()[0].endswith("  3 students: 1 fault, 1 quiet, 1 fresh")
-        assert [line for line in done.stdout.splitlines() if line.startswith("Student ")] == ["Student 2", "Student 1", "Student 3"]
+        assert [line for line in done.stdout.splitlines() if line.startswith("Student ")] == [
+            "Student 2",
+            "Student 1",
+            "Student 3",
+        ]
 
         with subprocess.Popen(
             [f"{TOP}/class", "wall", "--seconds", "1", it.folder, page],
