@@ -211,7 +211,7 @@ def test_hours_of_a_loop_take_seconds(folder: str) -> None:
     # The processor puts the process back at the first jump after 1,024 bytes, after 171 rounds; after twice as many the word is
     # what it was.
     period = 2 * 171 * 6
-    many = steps + (10**12 - steps) // period * period
+    many = steps + (6 * 10**10 - steps) // period * period
     right, behind = with_steps(record, many)
     plan, taken = ONE.removesuffix("---\n"), []
     os.mkdir(f"{folder}/records")
@@ -280,6 +280,7 @@ def test_bytes_wait_over_an_end(folder: str) -> None:
         assert live.ask("ann write 0 51") == "ann write 0 1\n"
         assert live.end() == (0, [], [])
     with Recorded(ECHO_PLAN, folder, True) as live:
+        live.users()
         assert live.ask("!words") == words
         assert live.ask("ann collect 0") == "ann collect 0 52\n"
         assert int(live.ask("!users").split()[3]) > int(counts[3])
