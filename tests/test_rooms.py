@@ -314,6 +314,47 @@ def check_pace(farm: Farm, name: str, seconds: int) -> None:
     assert 0 < after - before <= most
 
 
+def until_at_rest(farm: Farm, name: str) -> Row:
+    """Waits until a user's domain rests; the user's row then."""
+    end = time.monotonic() + FILL_SECONDS
+    while "rests" not in (row := farm.row(name)).words:
+        assert time.monotonic() < end, row
+        time.sleep(0.02)
+    time.sleep(0.1)
+    return farm.row(name)
+
+
+def noted_of(farm: Farm, name: str) -> list[str]:
+    """The notes of this user so far, of which the first is waited for."""
+    return [it for it in farm.noted() if it.startswith(f"{name} ")]
+
+
+def test_steps_without_a_line_are_bounded() -> None:
+    """A loop does a number of Steps after a line of its user, and rests until the next; after more of them it rests until a restart.
+    Each rest says why, and a neighbour's nodes don't rest."""
+    with Farm(PLAN, "--line-steps", "1M", "--restart-steps", "2M") as farm:
+        looping(farm, "bob")
+        first = until_at_rest(farm, "bob")
+        assert MIB <= first.recorded < 2 * MIB
+        assert noted_of(farm, "bob") == ["bob note rests line\n"]
+        assert farm.ask("bob look 0").startswith("bob look 0 running ")
+        second = until_at_rest(farm, "bob")
+        assert 2 * MIB <= second.recorded < 3 * MIB
+        assert noted_of(farm, "bob")[1:] == ["bob note rests steps\n"]
+        assert (farm.ask("bob rest"), farm.row("bob").recorded) == ("bob rest full\n", second.recorded)
+        assert (farm.ask("ann look 0"), farm.row("ann").words) == (LOOKED, ["quiet"])
+        assert farm.ask("!restart bob") == "!restart bob ok\n"
+        looping(farm, "bob")
+        assert until_at_rest(farm, "bob").recorded < 2 * MIB
+        status, rest, errors = farm.end()
+        assert (status, rest) == (0, [])
+        assert [it.partition(" rests: ")[2] for it in errors] == [
+            "its nodes have done as many Steps as they may after a line. Its nodes do nothing more until its users' next line\n",
+            "its nodes have done as many Steps as they may. Its nodes do nothing more until it begins anew\n",
+            "its nodes have done as many Steps as they may after a line. Its nodes do nothing more until its users' next line\n",
+        ]
+
+
 def test_resumed_domain_rests_again(folder: str) -> None:
     """After a kill the domain that rested rests again, its users are answered, and others go on; `restart` begins it anew."""
     more = ("--room", "1M", "--record", f"{folder}/records")

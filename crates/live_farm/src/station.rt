@@ -513,6 +513,19 @@ fn answer_want<R: Wait, O: SharedOutlet>(
     }
 }
 
+// Lets the nodes of the domain go on up to the bound after a line. If they rested at the one before, the next rest is told again.
+fn let_go_on<R: Wait>(rt: &R, station: &Station<'_>, group: &UserGroup<'_>) {
+    if station.rest_is_told.load(Ordering::SeqCst)
+        && let Ok(status) = group.service.room_status(rt, group.domain)
+        && status.rests == Some(RestCause::NoLine)
+    {
+        station.rest_is_told.store(false, Ordering::SeqCst);
+    }
+    group
+        .service
+        .bound_events_of_line(rt, group.domain, station.line_steps);
+}
+
 // Takes the next line and answers it; whether more may come. Once a write has failed nothing more is asked.
 fn serve_next<R: Wait, K: SharedRecord, O: SharedOutlet, N: Notices>(
     rt: &R,
@@ -533,9 +546,7 @@ fn serve_next<R: Wait, K: SharedRecord, O: SharedOutlet, N: Notices>(
         Mail::End => return false,
     };
     if usize::from(queued.user) < group.users() && !outlet.has_failed(rt) {
-        group
-            .service
-            .bound_events_of_line(rt, group.domain, station.line_steps);
+        let_go_on(rt, station, group);
         if serve_queued(rt, alloc, station, group, &queued, outputs, outlet).is_err()
             && usize::from(queued.user) < group.users()
         {
@@ -569,9 +580,7 @@ fn replay_first<R: Wait, K: SharedRecord, P: Replay<K>, N: Notices>(
         station.note(outputs.record.state(rt));
         station.meter.note_under_way(false);
     }
-    group
-        .service
-        .bound_events_of_line(rt, group.domain, station.line_steps);
+    let_go_on(rt, station, group);
     let _ = note_records(rt, alloc, station, group, outputs);
 }
 
