@@ -513,7 +513,7 @@ fn answer_want<R: Wait, O: SharedOutlet>(
     }
 }
 
-// Lets the nodes of the domain go on up to the bound after a line. If they rested at the one before, the next rest is told again.
+// Lets the nodes of the domain go on up to the bound after a line. If they rested at the one before, the next rest is reported again.
 fn let_go_on<R: Wait>(rt: &R, station: &Station<'_>, group: &UserGroup<'_>) {
     if station.rest_is_told.load(Ordering::SeqCst)
         && let Ok(status) = group.service.room_status(rt, group.domain)
