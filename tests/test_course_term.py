@@ -52,7 +52,8 @@ class Term(Lesson):
         self.answered = 0
 
     def users(self) -> list[str]:
-        return Farm(self.folder).users()
+        names: list[str] = Farm(self.folder).users()
+        return names
 
     def hand_in(self, name: str, exercise: str, program: Program) -> bool:
         """Hands in a program; whether it was answered."""
