@@ -356,9 +356,14 @@ def test_the_wall_is_no_event() -> None:
         # who has halted by a fault comes first
         assert [*tiles] == ["student-2", "student-1", "student-3"]
         for name, kind, *texts in (
-            ("student-1", "quiet", "<b>Student 1</b><span>rests</span>", "node 0 has ended: no process is left."),
-            ("student-2", "fault", "<b>Student 2</b><span>fault 1</span>", "node 0 halted by fault 1"),
-            ("student-3", "fresh", "<b>Student 3</b><span>nothing yet</span>"),
+            (
+                "student-1",
+                "quiet",
+                "<strong>Student 1</strong><span>rests</span>",
+                "node 0 has ended: no process is left.",
+            ),
+            ("student-2", "fault", "<strong>Student 2</strong><span>fault 1</span>", "node 0 halted by fault 1"),
+            ("student-3", "fresh", "<strong>Student 3</strong><span>nothing yet</span>"),
         ):
             assert (name, tiles[name][0], [it for it in texts if it not in tiles[name][1]]) == (name, kind, [])
         # a node that nobody has used isn't told of
@@ -414,7 +419,7 @@ def test_guides_quote_the_exercises() -> None:
         assert len([it for it in os.listdir(place) if it.startswith("wrong-")]) >= 2, name
     nodes = {name for name, place in folders.items() if exercise_in(place).machine.nodes > 1}
     assembly = {name for name, place in folders.items() if os.path.exists(f"{place}/solution.s")}
-    assert (len(assembly), len(nodes), len({*folders} - nodes - assembly), nodes & assembly) == (10, 6, 9, set())
+    assert (len(assembly), len(nodes), len({*folders} - nodes - assembly), nodes & assembly) == (10, 7, 8, set())
 
 
 def test_examples_find_their_wrong_programs() -> None:

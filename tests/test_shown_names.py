@@ -62,7 +62,7 @@ def test_orders_keep_the_name() -> None:
         assert "li  " in must("status", folder)
         assert [row.split()[:3] for row in must("marks", folder).splitlines()[1:2]] == [["li", "李", "小龙"]]
         must("wall", "--once", folder, f"{it.room.name}/wall.html")
-        assert "<b>李 小龙</b>" in text_of(f"{it.room.name}/wall.html")
+        assert "<strong>李 小龙</strong>" in text_of(f"{it.room.name}/wall.html")
         assert "李 小龙" in must("wall", "--once", folder)
         must("change", folder, "李 小龙", "--nodes", "2")
         assert sheet("li")[0] == "李 小龙"

@@ -25,7 +25,7 @@ MOST_LINES = 16
 SHEET = """
 .tiles { display: grid; grid-template-columns: repeat(auto-fill, minmax(12em, 1fr)); gap: .5em }
 .tile { border: 1px solid #bbb; border-left: .5em solid #9c9; padding: .3em .5em; color: inherit; text-decoration: none; overflow: hidden }
-.tile b, .tile span { display: block; white-space: nowrap; overflow: hidden; text-overflow: ellipsis }
+.tile strong, .tile span { display: block; white-space: nowrap; overflow: hidden; text-overflow: ellipsis }
 .fault { border-left-color: #c00; background: #f8d5d5 } .full, .deadlock { border-left-color: #d80; background: #fbe6c6 }
 .busy { border-left-color: #28c } .off, .fresh { border-left-color: #bbb; color: #666 }
 .tile pre, .tile small { display: none; margin: .3em 0 0; white-space: pre-wrap } .tile:target { grid-column: 1 / -1 }
@@ -88,7 +88,7 @@ def tile_of(it: Tile) -> str:
     more = html.escape(escaped(f"{it.user}, {it.farm}: {lines} lines, {room} of the room, last fault {fault}"))
     nodes = html.escape(escaped("\n".join(it.lines), "\n"))
     return (
-        f'<a class="tile {it.kind}" id="{user}" href="#{user}"><b>{person}</b><span>{told}</span><small>{more}</small>'
+        f'<a class="tile {it.kind}" id="{user}" href="#{user}"><strong>{person}</strong><span>{told}</span><small>{more}</small>'
         f"<pre>{nodes}</pre></a>\n"
     )
 

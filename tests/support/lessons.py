@@ -68,6 +68,8 @@ class Lesson(Course):
 
 
 def found_in(course: str, query: str) -> list[Any]:
-    """The same in the file of any class."""
+    """The same in the file of any class; nothing as long as there is none."""
+    if not os.path.exists(f"{course}/pages.sqlite"):
+        return []
     with contextlib.closing(sqlite3.connect(f"{course}/pages.sqlite")) as base:
         return base.execute(query).fetchall()
