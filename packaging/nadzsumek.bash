@@ -3,7 +3,7 @@
 _nadzsumek_options() {
   case $1 in
     farm) echo '--workers --quantum -h --help --explain --letters --version' ;;
-    live) echo '--workers --quantum --record --resume --sync --room --record-room -h --help --version' ;;
+    live) echo '--workers --quantum --record --resume --sync --room --record-room --line-steps --restart-steps -h --help --version' ;;
     lab) echo '-h --help --version' ;;
     lab\ replay) echo '--steps -h --help' ;;
     lab\ plan) echo '-h --help' ;;
@@ -17,10 +17,10 @@ _nadzsumek_options() {
     lab\ expand) echo '-h --help' ;;
     lab\ run) echo '--record --steps -h --help --send --send-to --memory' ;;
     lab\ debug) echo '--program --steps -h --help' ;;
-    serve) echo '-h --help --version --workers --quantum --room --record-room --mode --group --sync --proved --patience' ;;
+    serve) echo '-h --help --version --workers --quantum --room --record-room --line-steps --restart-steps --mode --group --sync --proved --patience' ;;
     connect) echo '-h --help --version -c --json --unchecked' ;;
-    class) echo '-h --help --version --students --nodes --hosts --memory --limit --room --record-room --mode --group --proved' ;;
-    class\ start) echo '--room --record-room --proved' ;;
+    class) echo '-h --help --version --students --nodes --hosts --memory --limit --room --record-room --line-steps --restart-steps --mode --group --proved' ;;
+    class\ start) echo '--room --record-room --line-steps --restart-steps --proved' ;;
     class\ serve) echo '--sync' ;;
     class\ add) echo '--students' ;;
     class\ change) echo '--nodes --hosts' ;;
@@ -42,7 +42,7 @@ _nadzsumek_wants_value() {
 _nadzsumek_values() {
   case $1 in
     farm) echo '--workers --quantum' ;;
-    live) echo '--workers --quantum --record --room --record-room' ;;
+    live) echo '--workers --quantum --record --room --record-room --line-steps --restart-steps' ;;
     lab\ replay) echo '--steps' ;;
     lab\ trace) echo '--boot --program --plan --domain --steps --until --input' ;;
     lab\ assemble) echo '--pokes' ;;
@@ -52,10 +52,10 @@ _nadzsumek_values() {
     lab\ film) echo '--from --count --program --steps' ;;
     lab\ run) echo '--record --steps --send --send-to --memory' ;;
     lab\ debug) echo '--program --steps' ;;
-    serve) echo '--workers --quantum --room --record-room --mode --group --patience' ;;
+    serve) echo '--workers --quantum --room --record-room --line-steps --restart-steps --mode --group --patience' ;;
     connect) echo '-c' ;;
-    class) echo '--students --nodes --hosts --memory --limit --room --record-room --mode --group' ;;
-    class\ start) echo '--room --record-room' ;;
+    class) echo '--students --nodes --hosts --memory --limit --room --record-room --line-steps --restart-steps --mode --group' ;;
+    class\ start) echo '--room --record-room --line-steps --restart-steps' ;;
     class\ add) echo '--students' ;;
     class\ change) echo '--nodes --hosts' ;;
     class\ check) echo '--csv --html' ;;
