@@ -182,7 +182,7 @@ def test_what_no_archive_has_stays() -> None:
     """`class finish --remove` removes no file that isn't in the archive, and says which stay."""
     with Course(1) as it:
         it.must("start")
-        kept = [f"{it.folder}/{name}" for name in ("exercises/one.txt", "names.txt", "sheets/pdf/ada.pdf")]
+        kept = [f"{it.folder}/{name}" for name in ("marks/pdf/ada.pdf", "names.txt", "notes/one.txt")]
         for path in kept:
             os.makedirs(os.path.dirname(path), exist_ok=True)
             put(path, "mine")
@@ -191,7 +191,7 @@ def test_what_no_archive_has_stays() -> None:
         notes = [line for line in done.stdout.splitlines() if line.startswith("note: ")]
         assert (done.returncode, done.stderr, there) == (0, "", kept)
         assert notes == [f"note: {path} stays: the archive hasn't it" for path in kept]
-        assert sorted(os.listdir(it.folder)) == ["exercises", "names.txt", "sheets"]
+        assert sorted(os.listdir(it.folder)) == ["marks", "names.txt", "notes"]
 
 
 def until(seen: Callable[[], bool]) -> bool:

@@ -174,7 +174,7 @@ def test_serve_says_rooms() -> None:
             ["--room", ""],
         ):
             done = run_text(it.call(*words), env=it.env)
-            assert (done.returncode, "a room's bytes are wanted, from 1M to 64G, such as 64M" in done.stderr) == (
+            assert (done.returncode, "a number is wanted, from 1M to 64G, such as 64M" in done.stderr) == (
                 2,
                 True,
             )

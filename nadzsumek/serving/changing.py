@@ -34,6 +34,8 @@ UNIT = re.compile(r"class@.*\.service")
 # The line between the plan of a record and its events, and how many bytes its plan has at most.
 DIVIDER, MOST_HEAD = b"\n---\n", 1 << 16
 ANSWER_SECONDS = 10
+# So many seconds an order waits for a replay, which is over in a moment as a rule, and looks so often.
+REPLAY_SECONDS, LOOK_SECONDS = 5, 0.1
 
 
 class StopForChange(Stop):
@@ -124,21 +126,29 @@ def number_of(path: str, name: str) -> int:
     return int(os.path.basename(path).removesuffix(".replay")[len(name) + 1 :] or 1)
 
 
-def outs(farm: str) -> set[str]:
-    """The users whose records couldn't be taken. A farm that replays a record is refused: it would begin with that anew."""
+def words_of_users(farm: str) -> list[list[str]]:
+    """What the operator of a farm is told of each user: the words of each line."""
     try:
-        answers = ask_operator(farm, "!users", ANSWER_SECONDS)
+        return [it.split(" ") for it in ask_operator(farm, "!users", ANSWER_SECONDS)]
     except OSError as error:
         raise Refused(
             f"{os.path.basename(farm)} is up, but its operator isn't answered ({error.strerror or error}): try again "
             "when class status shows it"
         ) from None
-    if replayed := [words[1] for it in answers if REPLAYING in (words := it.split(" "))[5:]]:
-        raise Refused(
-            f"{os.path.basename(farm)} replays what was done by {', '.join(replayed)}: try again when class status shows "
-            f"nobody as {REPLAYING}"
-        )
-    return {words[1] for it in answers if "out" in (words := it.split(" "))[5:]}
+
+
+def outs(farm: str) -> set[str]:
+    """The users whose records couldn't be taken. A farm that replays a record for longer than a moment is refused: it would begin
+    with that anew."""
+    end = time.monotonic() + REPLAY_SECONDS
+    while replayed := [words[1] for words in (users := words_of_users(farm)) if REPLAYING in words[5:]]:
+        if time.monotonic() > end:
+            raise Refused(
+                f"{os.path.basename(farm)} replays what was done by {', '.join(replayed)}: try again when class status "
+                f"shows nobody as {REPLAYING}"
+            )
+        time.sleep(LOOK_SECONDS)
+    return {words[1] for words in users if "out" in words[5:]}
 
 
 class Change:
