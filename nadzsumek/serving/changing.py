@@ -141,7 +141,11 @@ def outs(farm: str) -> set[str]:
     """The users whose records couldn't be taken. A farm that replays a record for longer than a moment is refused: it would begin
     with that anew."""
     end = time.monotonic() + REPLAY_SECONDS
-    while replayed := [words[1] for words in (users := words_of_users(farm)) if REPLAYING in words[5:]]:
+    while True:
+        users = words_of_users(farm)
+        replayed = [words[1] for words in users if REPLAYING in words[5:]]
+        if not replayed:
+            break
         if time.monotonic() > end:
             raise Refused(
                 f"{os.path.basename(farm)} replays what was done by {', '.join(replayed)}: try again when class status "

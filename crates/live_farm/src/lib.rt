@@ -40,7 +40,7 @@ pub use outputs::LiveOutputs;
 pub use program::run_live;
 pub use queued::{QueuedLine, QueuedRequest};
 pub use record::{NoRecord, RecordSizes, RecordState, SharedRecord, no_records};
-pub use replay::{NoReplay, Replay, no_replays};
+pub use replay::{NoReplay, Replay, StoreReplay, no_replays};
 pub use sending::LineSender;
 pub use station::{DomainBounds, Station, serve};
 pub use texts::{LiveAnswer, NotDone, error_answer};

@@ -6,7 +6,7 @@ use domain_core::NoMemory;
 use farm_service::{Service, Session};
 use plan_checker::AcceptedPlan;
 use record_files::{FileReplay, Notices, RecordFile, ReplayOutputs};
-use record_keeping::DomainRecord;
+use record_keeping::{DomainRecord, RecordStore};
 use std::alloc::Global;
 use std::fs::{File, Files};
 use std::sync::{Mutex, Wait};
@@ -28,8 +28,24 @@ pub trait Replay<K> {
         ensures { AreInOrder domain sessions.old → AreInOrder domain sessions.new };
 }
 
-impl<'a, F: Files<File = File>> Replay<Mutex<DomainRecord<RecordFile<'a, F>>>>
-    for FileReplay<'a, F> {
+/// The same of a domain whose record is in a store.
+pub trait StoreReplay<S: RecordStore> {
+    /// As [`Replay::is_left`].
+    fn is_left<R: Wait>(&self, rt: &R) -> bool;
+
+    /// As [`Replay::replay`].
+    fn replay<R: Wait, N: Notices>(
+        &self,
+        rt: &R,
+        service: &Service,
+        domain: u8,
+        sessions: &mut [Session<'_>],
+        outputs: &ReplayOutputs<'_, Mutex<DomainRecord<S>>, N>,
+    )
+        ensures { AreInOrder domain sessions.old → AreInOrder domain sessions.new };
+}
+
+impl<'a, F: Files<File = File>> StoreReplay<RecordFile<'a, F>> for FileReplay<'a, F> {
     fn is_left<R: Wait>(&self, rt: &R) -> bool {
         FileReplay::is_left(self, rt)
     }
@@ -43,6 +59,23 @@ impl<'a, F: Files<File = File>> Replay<Mutex<DomainRecord<RecordFile<'a, F>>>>
         outputs: &ReplayOutputs<'_, Mutex<DomainRecord<RecordFile<'a, F>>>, N>,
     ) {
         FileReplay::replay(self, rt, service, domain, sessions, outputs);
+    }
+}
+
+impl<S: RecordStore, T: StoreReplay<S>> Replay<Mutex<DomainRecord<S>>> for T {
+    fn is_left<R: Wait>(&self, rt: &R) -> bool {
+        StoreReplay::is_left(self, rt)
+    }
+
+    fn replay<R: Wait, N: Notices>(
+        &self,
+        rt: &R,
+        service: &Service,
+        domain: u8,
+        sessions: &mut [Session<'_>],
+        outputs: &ReplayOutputs<'_, Mutex<DomainRecord<S>>, N>,
+    ) {
+        StoreReplay::replay(self, rt, service, domain, sessions, outputs);
     }
 }
 
