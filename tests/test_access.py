@@ -248,7 +248,7 @@ class Up:
 def test_nc_and_socat_speak(place: Place) -> None:
     """Lines that are there at once, and lines that are typed one after another."""
     socket_of = place.socket(ANN)
-    text, told = "config 01000103\nlook 0\nlok 0\n", f"config -\n{BOOTING}error 5 verb\n"
+    text, told = "config 01000103\nlook 0\nlok 0\n", f"config -\n{BOOTING}error 3 verb\n"
     calls = {
         "nc": ["nc.openbsd", "-U", "-N", socket_of],
         "socat": ["socat", "-t", "20", "-", f"UNIX-CONNECT:{socket_of}"],

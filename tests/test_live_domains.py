@@ -177,21 +177,22 @@ def test_full_mailboxes_lose_nothing() -> None:
             "".join(f"{'bob' if it % 2 else 'cas'} why {200 + it % 2}\n" for it in range(given))
             + "ann look 0\n!words\n"
         )
-        numbers: list[int] = []
+        numbers: list[tuple[str, int]] = []
         others: list[str] = []
         done = 0
         while len(others) < 2 or done + len(numbers) < given:
             line = live.hear()
             if number := re.fullmatch(r"(bob|cas) error (\d+) busy\n", line):
-                numbers.append(int(number[2]))
-                assert number[1] == ("cas" if numbers[-1] % 2 else "bob")
+                numbers.append((number[1], int(number[2])))
             elif line in ("bob why 201 nosuch\n", "cas why 200 nosuch\n"):
                 done += 1
             else:
                 others.append(line.split()[0])
         assert sorted(others) == ["!words", "ann"]
         assert (len(set(numbers)), done >= MOST_WAITING, done < given) == (len(numbers), True, True)
-        assert set(numbers) <= set(range(3, given + 3))
+        # two lines of bob's came before
+        bobs, cas = range(3, given // 2 + 3), range(1, given // 2 + 1)
+        assert set(numbers) <= {*(("bob", it) for it in bobs), *(("cas", it) for it in cas)}
         # whoever was refused is answered once there is room
         assert live.ask("cas look 9") == "cas look 9 nosuch\n"
         assert live.end() == (0, [], [])

@@ -54,9 +54,8 @@ def test_keys_do_what_they_say() -> None:
             operator.until("!words 0:2c7 1:0 ")
             operator.until("operator> ")
             operator.line("rest\ta\t", ["!restart ann ok"])
-            # two lines are those by which serve asks for the users, three each those by which a load and a collect without a byte
-            # look, and eight are ann's
-            operator.line("restart zed", ["! error 19 user", "  (there is no such user: users lists them)"])
+            # two lines are those by which serve asks for the users, one that by which a load looks at the ports, and two came here
+            operator.line("restart zed", ["! error 6 user", "  (there is no such user: users lists them)"])
         assert it.stop()[0] == 0
 
 
