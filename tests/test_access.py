@@ -254,7 +254,6 @@ def test_nc_and_socat_speak(place: Place) -> None:
         "socat": ["socat", "-t", "20", "-", f"UNIX-CONNECT:{socket_of}"],
     }
     with place.serve():
-        # the two lines before these are those by which serve asks for the users
         assert place.by(FARM, *calls["nc"], text=text) == told
     with place.serve():
         assert place.by(FARM, *calls["socat"], text=text) == told
