@@ -20,8 +20,8 @@ exec "{live}" "$@"
 QUICK = (2, 65, 5, 1)
 # A program that counts without end: `ldc 0; stl 1; ldl 1; adc 1; stl 1; j`. No two of its moments are alike.
 COUNTING = ("join 0 1", "boot 0 b440d17181d1600b")
-# So many seconds it counts before the farm is stopped.
-COUNTING_SECONDS = 8
+# So many seconds it counts before the farm is stopped, and so many times as long as that it counts by its record then.
+COUNTING_SECONDS, LONGER = 3, 10
 
 
 def held(it: Course, text: str, live: str) -> None:
@@ -36,6 +36,14 @@ def asked(it: Course, user: str, line: str) -> bytes:
     done = run([f"{TOP}/connect", it.folder, user, "-c", line], more=it.env)
     assert done.status == 0
     return done.output
+
+
+def count_longer(it: Course, user: str) -> None:
+    """Lets a student's loop have counted for much longer by the record, as if the class had been up for all that time."""
+    path = f"{it.folder}/farm-1/records/{user}.replay"
+    text = text_of(path)
+    steps = max(map(int, re.findall(r"^(\d+) times ", text, re.MULTILINE)))
+    put(path, text.replace(f"{steps} ", f"{LONGER * steps} "))
 
 
 def now_of(it: Course) -> list[str]:
@@ -56,6 +64,7 @@ def test_a_replay_holds_up_nobody_else(live: str) -> None:
         time.sleep(COUNTING_SECONDS)
         assert asked(it, "student-1", "look 0").startswith(b"look 0 running ")
         it.must("stop")
+        count_longer(it, "student-1")
         assert it.must("start").splitlines()[-1] == "farm-1: up, 2 users"
         assert asked(it, "student-2", "look 0") == b"look 0 booting overruns 0 0 0 0\n"
         assert now_of(it) == ["busy replaying", "quiet"]
