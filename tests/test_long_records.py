@@ -118,6 +118,8 @@ def test_long_records(folder: str, lines: int = 110_000, events: int = 1_050_000
         farm.process.wait()
     check_whole(folder, events)
     with Farm(folder, *more, "--resume") as farm:
+        # it is answered when all is replayed, and no event is recorded by it
+        farm.ask(b"ann rest\n", b"ann rest quiet\n")
         assert farm.recorded() == events
         farm.ask(b"ann config 0207\n", b"ann config 80\n")
         assert farm.recorded() == events + 2

@@ -28,7 +28,7 @@ LINES = (
     (["serve", "--workers", "2", "pl"], "plan.toml"),
     (["serve", "plan.toml", "--s"], "--sync"),
     (["class", "st"], "start stop status"),
-    (["class", "start", "--"], "--room --record-room --proved"),
+    (["class", "start", "--"], "--room --record-room --line-steps --restart-steps --proved"),
     (["class", "start", "co"], "course"),
     (["class", "stop", "--"], ""),
     (["class", "remove", "course", ""], "ada bob"),

@@ -73,7 +73,7 @@ def test_threads_of_farm(name: str, count: int) -> None:
 
 
 # That the domain of a user rests, which answers no line.
-NOTE = re.compile(r"(ann|bob|cas) note rests \d+ \d+")
+NOTE = re.compile(r"(ann|bob|cas) note rests memory")
 # What ann and bob ask of `live`, line by line in turn, and what each is answered. The boot message's code gives the host one byte
 # more than it took, and twice that: see the guide's first program.
 LIVE_LINES = (
@@ -140,7 +140,7 @@ def test_allocations_of_live(live: str, folder: str, refuse: str) -> None:
                 and (status, errors) in ((5, b"memory\n"), (7, b"threads\n"))
             )
         said = re.fullmatch(
-            rb"(?:error (\d+) user\n)?(the domain of (ann|bob, cas) rests: \d+ of \d+ bytes are used\. .*\n)?", errors
+            rb"(?:error (\d+) user\n)?(the domain of (ann|bob, cas) rests: memory ran out\. .*\n)?", errors
         )
         others = [name for name in names if told[name] != wanted[name]]
         missing = [it for it in (missing_line(told[name], wanted[name], name) for name in names) if it is not None]

@@ -240,7 +240,7 @@ def test_class_serve_has_what_is_kept() -> None:
             while not os.path.exists(f"{it.env['LIVE']}.words") and one.poll() is None:
                 time.sleep(0.02)
             assert it.must("start") == "farm-1: up, 1 user\n"
-            assert "--room 2M --record-room 256M --sync --record" in got()[-1]
+            assert "--room 2M --record-room 256M --line-steps 16G --restart-steps 64G --sync --record" in got()[-1]
             assert (it.lock(1), it.must("stop"), one.wait()) == (one.pid, "farm-1: off\n", 0)
 
 
@@ -250,7 +250,8 @@ def test_class_checks_rooms() -> None:
         path, names = f"{it.folder}/class.json", f"{it.room.name}/many.txt"
         with open(path, encoding="utf-8") as file:
             kept = json.load(file)
-        assert kept.pop("rooms") == {"room": "64M", "record_room": "256M"}
+        bounds = {"room": "64M", "record_room": "256M", "line_steps": "16G", "restart_steps": "64G"}
+        assert kept.pop("rooms") == bounds
         for rooms in ({"room": "1K"}, {"room": 5}, [], {"zed": "1M"}, None):
             with open(path, "w", encoding="utf-8") as file:
                 json.dump({**kept, **({} if rooms is None else {"rooms": rooms})}, file)

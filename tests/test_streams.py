@@ -168,7 +168,7 @@ LIVE_LINES = (
     (b"# nothing\n", b"", b""),
     (b"ann poke 0 80000100 12345678\n", b"ann poke 0 9\n", b""),
     (b"zed look 0\n", b"", b"error 4 user\n"),
-    (b"ann frob\n", b"ann error 5 verb\n", b""),
+    (b"ann frob\n", b"ann error 3 verb\n", b""),
     (b"ann collect 0\n", b"ann collect 0 -\n", b""),
     (b"eve rest\n", b"", b"error 7 user\n"),
     (b"ann rest\n", b"ann rest quiet\n", b""),
