@@ -68,6 +68,9 @@ def test_a_replay_holds_up_nobody_else(live: str) -> None:
         assert it.must("start").splitlines()[-1] == "farm-1: up, 2 users"
         assert asked(it, "student-2", "look 0") == b"look 0 booting overruns 0 0 0 0\n"
         assert now_of(it) == ["busy replaying", "quiet"]
+        told = b"ports replaying\n  (what your machine did is replayed: its joins are told when that is over)\n"
+        assert asked(it, "student-1", "ports") == told
+        assert asked(it, "student-2", "ports").startswith(b"ports 0:- ")
         serving = it.lock(1)
         for order in (("add", it.folder, "Ada"), ("finish", it.folder)):
             done = it.call(*order)
@@ -75,6 +78,7 @@ def test_a_replay_holds_up_nobody_else(live: str) -> None:
             assert (done.returncode, done.stderr, it.lock(1)) == (1, said, serving)
         assert asked(it, "student-1", "look 0").splitlines()[-1].startswith(b"look 0 running ")
         assert now_of(it) == ["busy", "quiet"]
+        assert asked(it, "student-1", "ports").startswith(b"ports 0:1 1:0\n")
 
 
 def test_who_does_nothing_is_not_waited_for(live: str) -> None:

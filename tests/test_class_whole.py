@@ -10,6 +10,7 @@ import sys
 import time
 
 import pytest
+from nadzsumek.serving.folder import is_locked
 from support.serving_trials import hears_ctrl_c
 from support.courses import Course
 from support.live_lines import SECONDS
@@ -70,6 +71,28 @@ def test_a_rename_is_whole() -> None:
     """A student is renamed with all records or not at all, though the order is killed at any of its calls."""
     with Recorded() as it:
         check_cuts(it, "rename", "kill")
+
+
+def test_a_killed_order_leaves_no_farm_off() -> None:
+    """A farm that an order had stopped for a moment, and which it was killed too soon to start, is started by the next order, even one
+    that is refused. If the class was stopped in between it stays off."""
+    with Recorded() as it:
+        (order, *words), farm = ORDERS["rename"], f"{it.folder}/farm-1"
+        for is_stopped in (False, True):
+            it.must("start")
+            for number in range(18, 90, 6):
+                it.cut("kill", number, order, *words)
+                if not is_locked(farm):
+                    break
+            assert os.path.exists(f"{it.folder}/class.away"), number
+            if is_stopped:
+                it.must("stop")
+            done = it.call("remove", it.folder, "nobody-of-this-name")
+            started = "farm-1: an order that was killed had stopped it, so it is started\n"
+            assert (done.returncode, started in done.stdout) == (1, not is_stopped), done
+            assert is_locked(farm) != is_stopped
+            assert not os.path.exists(f"{it.folder}/class.away")
+            order, *words = ORDERS["change"]
 
 
 @pytest.mark.long

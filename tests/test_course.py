@@ -14,6 +14,7 @@ import pytest
 from nadzsumek import Farm, Refused
 from nadzsumek.course.given import moment_of, shown_time
 from support.lessons import ADDING, ADDS, ECHOES, Lesson
+from support.screens import Screen
 from support.serving_trials import SECONDS, Served, plan_of_users
 from support.trials import TOP, contents, put, text_of
 
@@ -52,6 +53,22 @@ def test_check_at_a_terminal(lesson: Lesson) -> None:
     assert told[-1] == OWN
     assert lesson.connect("student-1", "-c", "why").stdout == before
     assert lesson.ask("student-1", "submitted") == []
+
+
+def test_exercises_are_completed(lesson: Lesson) -> None:
+    """Behind `check`, `submit` and `exercises` Tab completes the exercises that were listed, and behind those the files."""
+    with Screen([f"{TOP}/connect", lesson.folder, "student-1"], folder=lesson.room.name, HOME=lesson.room.name) as it:
+        it.until("student-1> ")
+        it.press("exercises\r")
+        it.until("successor: Add one to each word")
+        it.until("student-1> ")
+        it.press("exercises suc\t\r")
+        it.until("exercises successor")
+        it.until("test ten words, one after another")
+        it.until("student-1> ")
+        it.press("check suc\tec\t\r")
+        it.until("check successor echoes.occ")
+        it.until(OWN)
 
 
 def test_first_value_that_differs(lesson: Lesson) -> None:

@@ -26,6 +26,12 @@ def read(answer: str) -> tuple[str, Answer] | None:
     return (verb, told) if isinstance(told, dict) else None
 
 
+def exercises_named(answer: str) -> list[str]:
+    """The exercises that an answer lists; none if it is another answer."""
+    verb, told = read(answer) or ("", {})
+    return [it["name"] for it in told["exercises"]] if verb == "exercises" else []
+
+
 def refusal(answer: str) -> str | None:
     """Why an answer about exercises refuses its line; none if it doesn't."""
     verb, word, text = (*answer.split(" ", 2), "", "")[:3]

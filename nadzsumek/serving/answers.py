@@ -32,6 +32,7 @@ MEANINGS = (
     (r"boot .* refused 2", "code has 255 bytes at most: load pokes longer code"),
     (r"peek \d+ -", "no word came: is the node booting (look), and joined with the host both ways (join)?"),
     (r"collect \d+ -", "no byte has come: is the host joined with a node (join), and what does the node do (look)?"),
+    (r"ports replaying", "what your machine did is replayed: its joins are told when that is over"),
     (r"restart operator", "other users share your machine: ask the operator"),
     (r"(! )?error \d+ busy", "too many lines wait: send it again later"),
     (r"(! )?error \d+ long", "a line has 1,048,576 bytes at most"),

@@ -20,7 +20,7 @@ from .escapes import escaped
 from .folder import Refused
 from .loads import LOOKING, Hindered, check_line, remark_on
 from .orders import lines_of, split, table_of
-from .ports import joins_told, wiring_of
+from .ports import drivers_in, joins_told, wiring_of
 
 if TYPE_CHECKING:
     from nadzsumek.farm import User
@@ -50,7 +50,8 @@ class Asking:
             texts, word = loading.told(asked, answer) if loading else with_meaning(asked, answer), refusal(
                 asked, answer
             )
-            texts += joins_told(answer, self.wiring) if asked == "ports" and self.wiring and not word else []
+            is_told = asked == "ports" and self.wiring is not None and drivers_in(answer) is not None
+            texts += joins_told(answer, self.wiring) if is_told and self.wiring else []
             more = {"meaning": meaning(answer) or shortfall(asked, answer)} if word else {}
             if not word and at == len(answers) - 1:
                 more["result"] = plain(result_of(answers))

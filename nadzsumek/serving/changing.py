@@ -13,16 +13,17 @@ from collections.abc import Iterator
 from typing import TYPE_CHECKING, NoReturn
 
 from ..course.book import follow_names
-from .folder import CLASS, CLASS_LOCK, OWN_FILE, PLAN, Refused, build, is_locked, locker
+from .folder import CLASS, CLASS_LOCK, OWN_FILE, PLAN, Refused, build, contents, is_locked, locker, put_whole
 from .holders import serve_of
 from .kept import own_class
 from .places import parts_of, text_of
 from .records import PIECE, records_of
 from .replacement import Replacement, discard, go_back, is_left, mend
+from .replays import REPLAYING
 from .sheets import count
-from .status import REPLAYING, ask_operator
+from .status import ask_operator
 from .supervising import Awaited, AwaitedChange, supervisor_of
-from .upkeep import INTERRUPTED, Start, Stop, all_done, begin_surely, must_all, say
+from .upkeep import INTERRUPTED, Start, Stop, all_done, begin_surely, do_all, must_all, say
 
 if TYPE_CHECKING:
     from .kept import Kept
@@ -34,6 +35,8 @@ UNIT = re.compile(r"class@.*\.service")
 # The line between the plan of a record and its events, and how many bytes its plan has at most.
 DIVIDER, MOST_HEAD = b"\n---\n", 1 << 16
 ANSWER_SECONDS = 10
+# The farms that an order has stopped for a moment, a line each, in the folder of the class.
+AWAY = "class.away"
 # So many seconds an order waits for a replay, which is over in a moment as a rule, and looks so often.
 REPLAY_SECONDS, LOOK_SECONDS = 5, 0.1
 
@@ -58,16 +61,48 @@ def lock(course: str, file: int, how: int) -> None:
 
 
 @contextlib.contextmanager
-def hold(course: str, how: int, mends: bool = True) -> Iterator[None]:
+def away(course: str, farms: list[str]) -> Iterator[None]:
+    """Notes farms that are stopped for a moment. If this process is killed before they are started, the next order starts them."""
+    path = os.path.join(course, AWAY)
+    if farms:
+        put_whole(path, "".join(f"{os.path.basename(it)}\n" for it in farms).encode(), OWN_FILE)
+    try:
+        yield
+    finally:
+        forget_away(course)
+
+
+def forget_away(course: str) -> None:
+    """Notes that no farm is to be started by the next order."""
+    with contextlib.suppress(FileNotFoundError):
+        os.unlink(os.path.join(course, AWAY))
+
+
+def bring_back(course: str) -> None:
+    """Starts the farms that an order has stopped which was killed before it started them."""
+    names = contents(os.path.join(course, AWAY)).decode(errors="replace").split()
+    kept = own_class(course)
+    farms = [it for it in kept.farms if os.path.basename(it) in names and not is_locked(it)]
+    for it in farms:
+        say(f"{os.path.basename(it)}: an order that was killed had stopped it, so it is started")
+    do_all([starting(kept, it, course, kept.farms[it]) for it in farms])
+    forget_away(course)
+
+
+@contextlib.contextmanager
+def hold(course: str, how: int, mends: bool = True, brings_back: bool = True) -> Iterator[None]:
     """Holds a class, for this process alone (LOCK_EX) or beside others that start and stop its farms (LOCK_SH). An order that was
-    cut short is ended before, unless it isn't to be."""
+    cut short is ended before, and farms that it had stopped are started, unless that isn't to be."""
     file = os.open(os.path.join(course, CLASS_LOCK), os.O_RDWR | os.O_CREAT | os.O_NOFOLLOW, OWN_FILE)
     try:
         lock(course, file, how)
-        if mends and is_left(course):
+        are_away = brings_back and os.path.lexists(os.path.join(course, AWAY))
+        if mends and (is_left(course) or are_away):
             lock(course, file, fcntl.LOCK_EX)
             with undisturbed():
                 mend(course)
+                if are_away:
+                    bring_back(course)
             lock(course, file, how)
         yield
     finally:
@@ -279,7 +314,7 @@ class Change:
         stopping = [farm for farm in self.touched if farm in up]
         before = {farm: outs(farm) for farm in stopping}
         begun, why = time.monotonic(), ""
-        with undisturbed():
+        with undisturbed(), away(self.course, stopping):
             try:
                 draft = Replacement(self.course)
                 for path, text in self.files.items():
@@ -310,7 +345,7 @@ class Change:
                 say(f"{it.name}: {it.outcome[1] if it.outcome else it.left()}")
             return INTERRUPTED
         if wrong:
-            with undisturbed():
+            with undisturbed(), away(self.course, stopping):
                 all_done([Stop(it.folder, self.course) for it in starts])
                 why, starts = self.go_back(stopping, "\n".join(wrong))
                 begin_surely(starts)

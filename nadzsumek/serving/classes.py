@@ -13,7 +13,7 @@ from collections.abc import Callable
 from concurrent.futures import ThreadPoolExecutor
 
 from ..mistakes.nearness import nearest
-from .changing import hold, starting
+from .changing import forget_away, hold, starting
 from .checking import check
 from .coming import add, change_one, remove, rename
 from .escapes import escaped, set_errors
@@ -111,7 +111,8 @@ def start(folder: str) -> int:
     if PROVED in own_class(folder).rights:
         refuse_unproved()
     build("class", "live", "lab")
-    with hold(folder, fcntl.LOCK_SH):
+    with hold(folder, fcntl.LOCK_SH, brings_back=False):
+        forget_away(folder)
         kept = own_class(folder)
         return do_all([starting(kept, farm, folder, names) for farm, names in kept.farms.items()])
 
@@ -148,7 +149,7 @@ def mend_soon(course: str) -> None:
     end = time.monotonic() + LAST_SECONDS
     while is_half_done(course):
         try:
-            with hold(course, fcntl.LOCK_EX):
+            with hold(course, fcntl.LOCK_EX, brings_back=False):
                 pass
         except Refused:
             if time.monotonic() > end:
@@ -185,6 +186,7 @@ def stop(folder: str) -> int:
     """Stops each farm. Its records stay, and it goes on from them when it is started again."""
     own_class(folder)
     with hold(folder, fcntl.LOCK_SH, mends=False):
+        forget_away(folder)
         tell(folder, LEAVE_OFF)
         return do_all([Stop(farm, folder) for farm in own_class(folder).farms])
 

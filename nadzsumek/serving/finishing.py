@@ -19,7 +19,7 @@ from typing import IO, TYPE_CHECKING, NamedTuple, cast
 
 from ..course.book import BOOK, copy_of
 from ..course.given import FOLDER as EXERCISES
-from .changing import changing, outs, undisturbed
+from .changing import away, changing, outs, undisturbed
 from .coming import REMOVED
 from .escapes import escaped
 from .folder import CLASS, LOG, OWN_FILE, PLAN, Refused, build, new_file, sync
@@ -250,7 +250,7 @@ def stopped(change: Change, is_last: bool) -> Iterator[tuple[list[Item], list[St
     ended = [Stop(farm, change.course) for farm in up]
     starts = [change.start_of(farm, change.kept.farms[farm], Awaited) for farm in up]
     try:
-        with undisturbed():
+        with undisturbed(), away(change.course, [] if is_last else up):
             must_all(ended)
             items = taken(change)
             if not is_last:

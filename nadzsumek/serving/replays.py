@@ -10,6 +10,8 @@ import time
 REPLAYED = re.compile(r"(.*/)?([^/]+)\.replay: (\d+) (?:of (\d+) MiB|Steps) are replayed")
 # What a record says of Steps that were done one after another.
 MANY_STEPS = re.compile(rb"(?m)^(\d{1,18}) times ")
+# Beside a user's name in `!users`: what the user's machine did is replayed.
+REPLAYING = "replaying"
 # Users are told of it no more often than this, in seconds.
 SAY_SECONDS = 5
 # So much of a record is read at a time, in bytes.

@@ -37,7 +37,7 @@ from .folder import (
     refuse_unproved,
     socket_path,
 )
-from .replays import REPLAYED, Replay
+from .replays import REPLAYED, REPLAYING, Replay
 from .ports import Wiring, found_in, ports_told, users_in, wiring_in
 from .reports import Reports, open_streams
 from .rooms import RECORD_ROOM, ROOM, Needed, add_bounds, bounds_in, words_of_bounds
@@ -82,6 +82,8 @@ class Server:
         # set while lines are handed on, or refused since the farm is stopped
         self.goes = asyncio.Event()
         self.starts, self.replays = running.Starts(), dict[str, Replay]()
+        # those of whom it is known that nothing of theirs is replayed
+        self.are_entered: set[str] = set()
         self.speakers: dict[str, Speaker] = {}
         self.operator: Operator
         self.accepting: list[asyncio.Task[None]] = []
@@ -205,24 +207,43 @@ class Server:
 
     def say_ports(self, speaker: Speaker, asked: Asked) -> None:
         """Answers a user's client which of his ports are joined: by the words of the switch, of which he gets those of his own
-        ports. His domain isn't asked, so nothing is recorded."""
+        ports. His domain isn't asked, so nothing is recorded. As long as what his machine did is replayed he is told that alone.
+        """
         self.read_wirings([speaker.name])
-        wiring = self.wirings.get(speaker.name)
+        wiring, live, nobodys = self.wirings.get(speaker.name), self.current_live(), Asked(b"", None, 0)
         assert asked.client, "a client has asked"
         client: Client = asked.client
         client.waits += 1
+        left = [asked]
 
-        def hear(answer: bytes | None) -> tuple[Speaker, bytes, Asked]:
+        def told(text: bytes) -> tuple[Speaker, bytes, Asked]:
+            left.clear()
             client.waits -= 1
             speaker.free(asked)
-            text = (
-                UNANSWERED + shown(asked.text)
-                if answer is None or wiring is None
-                else ports_told(answer.decode(), wiring.physical).encode()
-            )
             return speaker, text + b"\n", asked
 
-        self.operator.watch(self.current_live(), hear)
+        def hear(answer: bytes | None) -> tuple[Speaker, bytes, Asked]:
+            if answer is None or wiring is None:
+                return told(UNANSWERED + shown(asked.text))
+            return told(ports_told(answer.decode(), wiring.physical).encode())
+
+        def hear_row(row: bytes | None) -> tuple[Speaker, bytes, Asked]:
+            words = row.decode(errors="replace").split(" ") if row else []
+            if not left or row and words[1:2] != [speaker.name]:
+                return self.operator, b"", nobodys
+            if row and REPLAYING in words[2:]:
+                return told(f"ports {REPLAYING}".encode())
+            if row is None:
+                return hear(None)
+            left.clear()
+            self.are_entered.add(speaker.name)
+            self.operator.watch(live, hear)
+            return self.operator, b"", nobodys
+
+        if speaker.name in self.are_entered:
+            self.operator.watch(live, hear)
+        else:
+            self.operator.ask_users(live, hear_row)
 
     def tell_all(self, text: str) -> None:
         self.reports.say(f"serve: {text}")
@@ -316,6 +337,7 @@ class Server:
     async def begin(self) -> None:
         """Starts `live`, opens the sockets if they aren't open yet, and says to whom lines go."""
         self.replays.clear()
+        self.are_entered.clear()
         self.live, users = await running.begin(self.call(), self.folder.records, self.begun, self.hear_error)
         if not self.speakers:
             self.open(users)

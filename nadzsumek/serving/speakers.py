@@ -35,6 +35,8 @@ RESTART, RESTARTS_AT_ONCE, RESTARTS_A_SECOND = b"restart", 20, 1
 MOST_TOLD = 200
 # What `live` is asked now and then. The thread that reads answers it, without a lock.
 WATCHED = b"!words\n"
+# What tells whose machine is replayed, among other things.
+USERS = b"!users\n"
 # By what stands behind this, the operator tells all users something. `serve` does it by itself.
 TELL = b"!tell "
 # A user's line that `serve` answers by itself, by what the words of the switch say of the user's own ports.
@@ -236,6 +238,10 @@ class Operator(Speaker):
         asked = Asked(WATCHED[:-1], None, 0, hear=hear)
         self.sent(*live.say(WATCHED), asked)
         return lambda: asked not in self.asked.values()
+
+    def ask_users(self, live: Live, hear: Hear) -> None:
+        """Asks for the state of all users. `hear` is called with the row of each."""
+        self.sent(*live.say(USERS), Asked(USERS[:-1], None, 0, hear=hear))
 
     def answered(self, answer: bytes) -> Asked | None:
         """`!users` has a line for each user; `!restart` is answered when its domain has begun anew."""

@@ -10,6 +10,7 @@ import socket
 from .escapes import escaped
 from .folder import NOT_PROVED, OPERATOR, is_locked, socket_path
 from .records import last_fault
+from .replays import REPLAYING
 
 # How long a farm may take for what its operator asks.
 SECONDS = 10
@@ -23,8 +24,6 @@ HEAD = ("user", "farm", "lines", "events", "used", "room", "records", "now", "la
 WORDS, ROOMS = 4, 4
 # What a row has in their place if no `serve` has the farm, and if one has it and doesn't answer.
 OFF, SILENT = "off", "no answer"
-# What `!users` says of a user whose record is replayed, behind `busy`.
-REPLAYING = "replaying"
 MIB = 1 << 20
 
 

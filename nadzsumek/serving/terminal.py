@@ -24,7 +24,7 @@ from .folder import OPERATOR, Refused
 from .kept import place_of
 from .loads import COLLECTING, LOOKING, Hindered, check_line, remark_on
 from .orders import lines_of, split, table_of
-from .ports import joins_told, ports_of, wiring_of
+from .ports import drivers_in, joins_told, ports_of, wiring_of
 from .versions import add_version
 
 HISTORY = os.path.expanduser("~/.nadzsumek_history")
@@ -64,6 +64,7 @@ class Terminal:
         self.news, self.has_ended, self.at_prompt = threading.Condition(), False, False
         self.interrupts, self.is_sending, self.is_noticed = 0, False, threading.Event()
         self.prompt, self.answer = f"{escaped(name)}> ", ""
+        self.exercises: set[str] = set()
         self.reader = threading.Thread(target=self.read, daemon=True)
         self.reader.start()
 
@@ -96,11 +97,12 @@ class Terminal:
             time.sleep(0.1)
 
     def hear(self, answer: str) -> None:
+        self.exercises.update(telling.exercises_named(answer))
         with self.news:
             due = next((it for it in self.due if it.is_answered_by(answer)), None)
             for text in due.told(answer) if due else with_meaning(None, answer):
                 self.show(text)
-            if due and due.line == "ports" and self.wiring and answer.startswith("ports"):
+            if due and due.line == "ports" and self.wiring and drivers_in(answer) is not None:
                 for text in joins_told(answer, self.wiring):
                     self.show(text)
             if due and not goes_on(answer):
@@ -302,7 +304,7 @@ class Terminal:
 
 def at_terminal(terminal: Terminal, folder: str) -> int:
     """Runs a terminal with completion and the history of earlier ones."""
-    complete_with(folder, terminal.name)
+    complete_with(folder, terminal.name, lambda: sorted(terminal.exercises))
     with contextlib.suppress(OSError):
         readline.read_history_file(HISTORY)
     readline.set_history_length(MOST_HISTORY)
