@@ -63,3 +63,21 @@ pub next_told : (user : ℕ) (entry : Entry) (told : List AnsweredCommand) (list
 next_told user entry told listed command other_told within is has =
     take_more told listed other_told within ∙ ap (λ (x : AnsweredCommand). take listed told ++ x ∷ []) is
     ∙ ap (λ (xs : List AnsweredCommand). take listed told ++ xs) (sym has)
+
+-- a list that goes on with the commands of the first entries, and then with those of the next, goes on with those of
+-- one entry more
+pub goes_on_more : JournalsAddUp
+    → (user : ℕ) (journal : List Entry) (told first : List AnsweredCommand) (i listed n : ℕ) (entry : Entry)
+    → i < length journal
+    → take listed told ≡ first ++ commands_of user (expanded (take i journal))
+    → take n told ≡ take listed told ++ commands_of user (expanded (get_or journal i entry ∷ []))
+    → take n told ≡ first ++ commands_of user (expanded (take (i + 1) journal))
+goes_on_more law user journal told first i listed n entry within so_far next =
+    let have : List AnsweredCommand = commands_of user (expanded (take i journal)) in
+    let has : List AnsweredCommand = commands_of user (expanded (get_or journal i entry ∷ [])) in
+    next ∙ ap (λ (xs : List AnsweredCommand). xs ++ has) so_far ∙ append_assoc first have has
+    ∙ ap (λ (xs : List AnsweredCommand). first ++ xs)
+    (sym
+    (ap (λ (xs : List Entry). commands_of user (expanded xs)) (take_more journal i entry within)
+    ∙ ap (commands_of user) (law (take i journal) (get_or journal i entry ∷ []))
+    ∙ filter_map-append (command_from user) (expanded (take i journal)) (expanded (get_or journal i entry ∷ []))))

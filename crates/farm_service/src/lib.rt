@@ -45,4 +45,5 @@ pub use std::alloc::AllocError as NoMemory;
 pub use switch_table::OperatorSeat;
 pub use threads::{note_cores, run_users_and_workers, work_all};
 pub use token_queue::{Token, WorkerPass};
+pub use waiting::block_forever;
 pub use worker::{Gate, NoGate, UNTIL_STOPPED, Worked, work};

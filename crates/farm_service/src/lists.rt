@@ -7,6 +7,7 @@ ghost use Rattle.farm_service.specs.Closed.{IsListedIn, IsListed, AreListed};
 use crate::closed::ClosedDomain;
 use crate::commands::command_from;
 use crate::pass::UserPass;
+use crate::session::Session;
 use crate::waiting::block_forever;
 use domain_core::laws::journals_add_up;
 use domain_core::{AnsweredCommand, Entry, Journal};
@@ -54,6 +55,26 @@ fn lists(journal: &Journal, user: u8, told: &[AnsweredCommand]) -> bool
         }
     }
     listed == told.len()
+}
+
+impl Session<'_> {
+    /// How many of the user's commands are listed up to the end of these entries, if what all of them have of the user is what comes
+    /// in the list after the first `listed`.
+    pub fn listed_after(&self, entries: &[Entry], listed: usize) -> Option<usize>
+        requires { listed ≤ length self.now.pass.told }
+        ensures listed { IfSome result (λ n. take n self.now.pass.told
+            ≡ take listed self.now.pass.told ++ commands_of self.now.pass.user (expanded entries.now)) }
+        ensures within { IfSome result (λ n. n ≤ length self.now.pass.told) }
+    {
+        // What is appended to a journal comes after what it stands for.
+        journals_add_up();
+        let (user, told) = (self.pass().user(), self.commands());
+        let mut after = listed;
+        for entry in entries {
+            after = listed_after(entry, user, told, after)?;
+        }
+        Some(after)
+    }
 }
 
 /// Whether a pass lists what a journal has of its user.

@@ -17,7 +17,7 @@ pub enum RestCause {
     RecordsFull,
     /// It has recorded as many events as it may: see [`crate::Service::bound_events`].
     EventsUsedUp,
-    /// It has recorded as many events since its users' last line as it may: see [`crate::Service::bound_events_of_line`].
+    /// It has recorded as many events since its users' last line as it may: see [`crate::Session::bound_events_of_line`].
     NoLine,
 }
 

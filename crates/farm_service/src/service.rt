@@ -237,20 +237,6 @@ impl Service {
         self.room
     }
 
-    /// Lets the nodes and packets of a domain rest until it is restarted, since memory ran out.
-    pub fn halt(&self, domain: u8) {
-        if let Some(notes) = self.rest_notes(domain) {
-            notes.note_no_memory();
-        }
-    }
-
-    /// Lets the nodes and packets of a domain rest until it is restarted, since its records have too little room.
-    pub fn halt_for_records(&self, domain: u8) {
-        if let Some(notes) = self.rest_notes(domain) {
-            notes.note_full_records();
-        }
-    }
-
     // What is noted of the rest of a domain, none if there is no such domain.
     pub(crate) fn rest_notes(&self, domain: u8) -> Option<&RestNotes> {
         self.rest_notes.get(usize::from(domain))

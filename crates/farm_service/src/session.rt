@@ -85,6 +85,11 @@ impl Session<'_> {
         &self.pass
     }
 
+    // The service.
+    pub(crate) fn service(&self) -> &Service {
+        self.service
+    }
+
     // Makes the user's pass as it was opened.
     pub(crate) fn begin_anew(&mut self)
         ensures { self.new ≡ begun_anew self.old }

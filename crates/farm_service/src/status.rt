@@ -4,12 +4,15 @@ ghost use Rattle.domain_core.specs.declared.event.Refusal.TheVariants.{NoSuch};
 ghost use Rattle.domain_core.specs.Domain.{DomainValue as SpecDomain};
 ghost use Rattle.plan_rules.specs.Part.{part_of};
 ghost use Rattle.farm_service.specs.Domains.{IsFound, IsStatusOf};
+ghost use Rattle.farm_service.specs.Restarts.{AllListed};
 ghost use Rattle.farm_service.specs.Rooms.{IsRoomStatusOf, IsUsedUp, least_bytes};
 ghost use Rattle.farm_service.specs.declared.resting.RestCause.TheVariants.{RoomUsedUp as SpecRoomUsedUp};
 
+use crate::restarting::await_all_listed;
 use crate::resting::RestCause;
 use crate::room::Room;
 use crate::service::{SeatedDomain, Service};
+use crate::session::Session;
 use domain_core::Refusal;
 use std::sync::Wait;
 
@@ -121,5 +124,29 @@ impl Service {
             }
             None => Err(Refusal::NoSuch),
         }
+    }
+    /// How it is with the domain of these sessions, under its lock, where the list of each is what the domain's journal has of its
+    /// user. If a list isn't, the call waits for ever. No run comes to it whose passes are those of the service's own opening.
+    ///
+    /// # Errors
+    ///
+    /// `NoSuch` if the plan has no such domain.
+    pub fn listed_status<R: Wait>(
+        &self,
+        rt: &R,
+        domain: u8,
+        sessions: &[Session<'_>],
+    ) -> Result<DomainStatus, Refusal>
+        ensures status { IfOk result (λ status. (d : SpecDomain) × IsFound self.now.plan domain d × IsStatusOf self.now.room d status
+            × AllListed d.journal sessions.now) }
+        ensures no_such { (result ≡ Err NoSuch) ↔ (length self.now.plan ≤ domain) }
+        ensures err { IfErr result (λ refusal. refusal ≡ NoSuch) }
+    {
+        let Some(mut seated) = self.hold_found(rt, domain) else {
+            return Err(Refusal::NoSuch);
+        };
+        await_all_listed(rt, seated.journal(), sessions);
+        let room = self.room_taken(domain, &seated);
+        Ok(status_of(&mut seated, self.room(), room))
     }
 }

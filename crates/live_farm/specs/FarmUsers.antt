@@ -1,5 +1,5 @@
 -- All users of a farm, and to whom a line goes.
-use Rattle.std.specs.Prelude.{◌≡◌, ℕ, List, Option, Some, option_map, option_and_then, slice_get}
+use Rattle.std.specs.Prelude.{ℕ, Option, option_map, option_and_then, slice_get}
 use Rattle.plan_rules.specs.declared.users.UserNumber.{UserNumber}
 use Rattle.live_farm.specs.declared.farm_users.FarmUsers.{FarmUsers}
 use Rattle.live_farm.specs.declared.queued.QueuedLine.{QueuedLine}

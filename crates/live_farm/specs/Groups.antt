@@ -8,7 +8,7 @@ use Rattle.farm_service.specs.Passes.{SessionValue}
 use Rattle.script_lines.specs.declared.command.Command.{Command}
 use Rattle.line_answers.specs.Sessions.{IsAnswered}
 use Rattle.script_lines.specs.declared.fault.LineFault.TheVariants as fault
-use Rattle.farm_service.specs.Restarts.{AreAllOfOne, begun_anew}
+use Rattle.farm_service.specs.Restarts.{AllListed, AreAllOfOne, begun_anew}
 use Rattle.live_lines.specs.declared.asked.WholeRequest.TheVariants as whole
 use Rattle.live_lines.specs.declared.asked.LiveRequest.TheVariants as request
 use Rattle.live_farm.specs.declared.answering.QueuedAnswer.{QueuedAnswer}
@@ -21,7 +21,6 @@ use Rattle.live_farm.specs.declared.record.RecordState.TheVariants as state
 use Rattle.live_farm.specs.declared.texts.NotDone.{NotDone}
 use Rattle.live_farm.specs.declared.texts.NotDone.TheVariants as why
 use Rattle.live_farm.specs.Names.{user_number_of}
-use Rattle.live_farm.specs.Asking.{commands_asked}
 use Rattle.live_farm.specs.Whys.{IsToldOf}
 use Rattle.live_farm.specs.LiveTexts.{error_text, rest_text, rest_state_of, restart_text, why_text, no_node_text, operator_restart_text}
 
@@ -61,12 +60,12 @@ abbrev pub BeginsIf : Bool → UserGroup → UserGroup → Type 0
 BeginsIf true before after = AllBegin before after
 BeginsIf false before after = AllStay before after
 
--- this was the status of these users' domain when it was looked at: it had recorded as many events as its users were
--- answered commands, or more
+-- this was the status of these users' domain when it was looked at: its journal had of each user exactly what the user
+-- was answered
 abbrev pub IsStatusHere : UserGroup → DomainStatus → Type 0
 IsStatusHere group status =
     (d : DomainValue) × IsFound group.service.now.plan group.domain d × IsStatusOf group.service.now.room d status
-    × (commands_asked group ≤ status.recorded)
+    × AllListed d.journal group.sessions.items
 
 -- a user is answered whether the user's domain is at rest, as its status says
 abbrev pub AnswersRest : UserGroup → ℕ → List ℕ → Type 0
@@ -94,13 +93,11 @@ LacksNode group (Some node) name text =
     × (text ≡ no_node_text name node)
 
 -- a user is answered why the nodes of the user's domain, or one of them, do no more than they do: each line of that
--- begins with the user's name, and the last says that it is the end. Or the answer is that there is no such node; or,
--- by the number of the user's line, that what the domain answered can't be done again
-abbrev pub AnswersWhy : UserGroup → ℕ → ℕ → Option ℕ → List ℕ → Type 0
-AnswersWhy group user number node text =
+-- begins with the user's name, and the last says that it is the end. Or the answer is that there is no such node
+abbrev pub AnswersWhy : UserGroup → ℕ → Option ℕ → List ℕ → Type 0
+AnswersWhy group user node text =
     (name : List ℕ) × IsNamedSo group user name
-    × (((told : List ℕ) × IsToldOf group node told × (text ≡ why_text name told))
-    ⊎ (LacksNode group node name text ⊎ (text ≡ error_text name number why.Journal)))
+    × (((told : List ℕ) × IsToldOf group user node told × (text ≡ why_text name told)) ⊎ LacksNode group node name text)
 
 -- the domain of a user begins again, as the operator asked in the line of this number; or nothing changes, and the
 -- operator is answered the error `user`
@@ -126,7 +123,7 @@ AnswersRequest before after user number (line.Asked (request.Domain whole.Rest))
 AnswersRequest before after user number (line.Asked (request.Domain whole.Restart)) anew text =
     AnswersRestart before after user anew text
 AnswersRequest before after user number (line.Asked (request.Domain (whole.Why node))) anew text =
-    AnswersWhy before user number node text × AllStay before after × (anew ≡ false)
+    AnswersWhy before user node text × AllStay before after × (anew ≡ false)
 AnswersRequest before after user number (line.Wrong w) anew text =
     AnswersWrong before after user number w text × (anew ≡ false)
 AnswersRequest before after user number line.OperatorRestart anew text =

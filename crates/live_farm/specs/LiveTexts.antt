@@ -20,7 +20,6 @@ reason_word (why.Fault fault) = fault_word fault
 reason_word why.Long = codes "long"
 reason_word why.Busy = codes "busy"
 reason_word why.Record = codes "record"
-reason_word why.Journal = codes "journal"
 reason_word why.Full = codes "full"
 reason_word why.Memory = codes "memory"
 

@@ -1,5 +1,6 @@
 -- Why the nodes of a domain do no more than they do.
-use Rattle.std.specs.Prelude.{◌≡◌, ◌≤◌, ◌==◌, ◌++◌, ℕ, List, [], ◌∷◌, Option, codes, is_some, nat_lt, take, if◌then◌else◌}
+use Rattle.std.specs.Prelude.{◌≡◌, ◌≤◌, ◌==◌, ◌++◌, ◌+◌, ◌*◌, ◌^◌, ◌⊎◌, ℕ, List, [], ◌∷◌, Option, Some, codes, is_some, length, nat_lt}
+use Rattle.std.specs.Prelude.{slice_get, take, if◌then◌else◌}
 use Rattle.std.specs.Fmt.{decimal}
 use Rattle.std.specs.List.{flat_map}
 use Rattle.plan_rules.specs.Data.{DomainData}
@@ -11,11 +12,13 @@ use Rattle.domain_core.specs.PrivateFarm.{Call}
 use Rattle.domain_core.specs.Domain.{DomainValue}
 use Rattle.domain_core.specs.Moments.{MomentValue}
 use Rattle.farm_service.specs.declared.status.DomainStatus.{DomainStatus}
+use Rattle.farm_service.specs.Commands.{commands_of}
 use Rattle.farm_service.specs.Domains.{IsFound, IsStatusOf, GainsCopies}
+use Rattle.farm_service.specs.Passes.{SessionValue}
+use Rattle.farm_service.specs.Restarts.{AllListed}
 use Rattle.record_following.specs.Following.{entry_calls, IsMomentAfter}
 use Rattle.node_causes.specs.Explained.{IsExplained}
 use Rattle.live_farm.specs.declared.group.UserGroup.{UserGroup}
-use Rattle.live_farm.specs.Asking.{commands_asked}
 
 -- up to which event a domain was done again, of all that are recorded
 abbrev pub after_text : ℕ → ℕ → List ℕ
@@ -66,27 +69,56 @@ ArePieces plan number from (piece ∷ later) to =
 abbrev pub calls_followed : List FollowedPiece → List Call
 calls_followed pieces = flat_map (λ piece. take piece.count (entry_calls piece.entries)) pieces
 
--- the domain of this number at the moment after calls of pieces that its journal had, from the journal's beginning on
-pub record IsFollowed (plan : List DomainData) (number : ℕ) (mark : Mark) (moment : MomentValue) : Type 0 where
+-- the entries that were copied
+abbrev pub entries_copied : List FollowedPiece → List Entry
+entries_copied pieces = flat_map (λ piece. piece.entries) pieces
+
+-- how much was done for pieces: each call counts 1, and each entry 64 more
+abbrev pub done_again : List FollowedPiece → ℕ
+done_again pieces = length (calls_followed pieces) + 64 * length (entries_copied pieces)
+
+-- the most that is done for one answer, but for a last piece
+abbrev pub most_again : ℕ
+most_again = 2 ^ 27
+
+-- the domain of this number at the moment after calls of pieces that its journal had, from the journal's beginning on.
+-- What the pieces have of the user of a session is the beginning of the user's list, of this length; and with what was
+-- done for them, no less than this is left to do of the most for one answer
+pub record IsFollowed (plan : List DomainData) (number : ℕ) (session : SessionValue) (mark : Mark) (listed left : ℕ)
+    (moment : MomentValue) : Type 0 where
   pub start : Mark
   pub pieces : List FollowedPiece
   pub beginning : (journal : List Entry) → events_from start journal ≡ expanded journal
   pub gained : ArePieces plan number start pieces mark
   pub after : IsMomentAfter plan number (calls_followed pieces) moment
+  pub theirs :
+      take listed session.pass.told ≡ commands_of session.pass.user (expanded (entries_copied pieces))
+  pub within : listed ≤ length session.pass.told
+  pub counts : most_again ≤ left + done_again pieces
 
--- what is said of the domain of these users, and of all its nodes or the one that is asked for: of a moment to which
--- calls in its journal lead, and of its status when it had recorded as many events as its users were answered commands,
--- or more
-pub record IsToldOf (group : UserGroup) (node : Option ℕ) (told : List ℕ) : Type 0 where
+-- this number of events is recorded at a moment, and all commands of the user were copied; or nothing is left to do
+abbrev pub IsFarEnough : ℕ → SessionValue → ℕ → ℕ → MomentValue → Type 0
+IsFarEnough end session listed left moment =
+    ((end ≤ moment.recorded) × (listed ≡ length session.pass.told)) ⊎ (left ≡ 0)
+
+-- what is said to a user of the domain of these users, and of all its nodes or the one that is asked for: of its
+-- status when its journal had of each user exactly the user's list; and of a moment to which calls in its journal lead,
+-- as many as the status counts with all that the user was answered, or as are done again for one answer
+pub record IsToldOf (group : UserGroup) (user : ℕ) (node : Option ℕ) (told : List ℕ) : Type 0 where
   pub domain : DomainValue
   pub status : DomainStatus
   pub mark : Mark
   pub moment : MomentValue
   pub room : ℕ
   pub causes : List ℕ
+  pub session : SessionValue
+  pub listed : ℕ
+  pub left : ℕ
+  pub whose : slice_get group.sessions.items user ≡ Some session
   pub found : IsFound group.service.now.plan group.domain domain
   pub status_of : IsStatusOf group.service.now.room domain status
-  pub recorded : commands_asked group ≤ status.recorded
-  pub followed : IsFollowed group.service.now.plan group.domain mark moment
+  pub theirs : AllListed domain.journal group.sessions.items
+  pub followed : IsFollowed group.service.now.plan group.domain session mark listed left moment
+  pub far : IsFarEnough status.recorded session listed left moment
   pub explained : IsExplained moment node causes
   pub text : told ≡ moment_text status room moment.recorded causes

@@ -2,12 +2,10 @@
 ghost use Rattle.std.specs.Prelude.{◌≡◌, ◌<◌, true, false, length, map, IfOk, IfSome, OnErr, string_bytes};
 ghost use Rattle.farm_service.specs.Restarts.{begun_anew};
 ghost use Rattle.farm_service.specs.declared.status.DomainStatus.{DomainStatus as SpecStatus};
-ghost use Rattle.live_farm.specs.Asking.{commands_asked};
 ghost use Rattle.live_farm.specs.LiveTexts.{rest_state_of};
 ghost use Rattle.live_farm.specs.Groups.{IsStatusHere, AnswersLine, AnswersRest, AnswersRestart, AnswersWhy, AnswersOperator, AnswersQueued, AreNotAll};
 ghost use Rattle.live_farm.specs.Groups.{IsSameDomain, StaysAfterError};
 
-use crate::asked::AskedCommands;
 use crate::causes::explain_domain;
 use crate::group::UserGroup;
 use crate::queued::{QueuedLine, QueuedRequest};
@@ -19,7 +17,6 @@ use domain_core::{NoMemory, Refusal};
 use farm_service::DomainStatus;
 use line_answers::{answer_line, settle};
 use live_lines::{LiveRequest, WholeRequest};
-use record_following::FollowFault;
 use script_lines::{Command, LineFault};
 use std::alloc::Global;
 use std::sync::Wait;
@@ -129,29 +126,17 @@ impl UserGroup<'_> {
             .is_ok()
     }
 
-    // How it is with the domain, if it has recorded as many events as this.
-    fn status_after<R: Wait>(&self, rt: &R, asked: u64) -> Option<DomainStatus>
-        requires { asked ≡ commands_asked self.now }
-        ensures { IfSome result (IsStatusHere self.now) }
-    {
-        match self.service.status(rt, self.domain) {
-            Ok(status) if asked <= status.recorded => Some(status),
-            _ => None,
-        }
-    }
-
-    // How it is with the domain, with all commands in its journal that its users list. They are there before they are listed, so
-    // no run asks twice.
+    // How it is with the domain, with exactly the commands in its journal that its users list.
     fn status<R: Wait>(&self, rt: &R) -> DomainStatus
         ensures { IsStatusHere self.now result }
     {
-        let asked = AskedCommands::of_group(self).commands;
-        for _ in rt.forever() {
-            if let Some(status) = self.status_after(rt, asked) {
-                return status;
-            }
+        match self
+            .service
+            .listed_status(rt, self.domain, self.sessions.as_slice())
+        {
+            Ok(status) => status,
+            Err(_) => unreachable!(),
         }
-        unreachable!()
     }
 
     // Whether the domain is at rest.
@@ -208,11 +193,10 @@ impl UserGroup<'_> {
         rt: &R,
         alloc: Global,
         user: usize,
-        number: u64,
         node: Option<u8>,
     ) -> Result<LiveAnswer, NoMemory>
         requires { user < length self.now.sessions.items }
-        ensures { IfOk result (λ lines. AnswersWhy self.now user number node (string_bytes lines.text)) }
+        ensures { IfOk result (λ lines. AnswersWhy self.now user node (string_bytes lines.text)) }
     {
         let name = self.name(user);
         if let Some(node) = node
@@ -220,11 +204,8 @@ impl UserGroup<'_> {
         {
             return no_node_answer(alloc, name, node);
         }
-        match explain_domain(rt, alloc, self, self.status(rt), node) {
-            Ok(told) => why_answer(alloc, name, told.as_str()),
-            Err(FollowFault::Memory(_)) => Err(NoMemory),
-            Err(_) => error_answer(alloc, name, number, NotDone::Journal),
-        }
+        let told = explain_domain(rt, alloc, self, user, self.status(rt), node)?;
+        why_answer(alloc, name, told.as_str())
     }
 
     // Tells why the nodes of the domain, or one of them, do no more than they do. The domain is asked nothing.
@@ -233,14 +214,13 @@ impl UserGroup<'_> {
         rt: &R,
         alloc: Global,
         user: usize,
-        number: u64,
         node: Option<u8>,
     ) -> Result<QueuedAnswer, NoMemory>
         requires { user < length self.now.sessions.items }
-        ensures why { IfOk result (λ a. AnswersWhy self.now user number node (string_bytes a.lines.text)) }
+        ensures why { IfOk result (λ a. AnswersWhy self.now user node (string_bytes a.lines.text)) }
         ensures anew { IfOk result (λ a. a.begins_anew ≡ false) }
     {
-        let lines = self.lines_of_why(rt, alloc, user, number, node)?;
+        let lines = self.lines_of_why(rt, alloc, user, node)?;
         Ok(QueuedAnswer::of_line(lines))
     }
 
@@ -298,7 +278,7 @@ pub fn answer_queued<R: Wait>(
             group.answer_restart(rt, alloc, user)
         }
         QueuedRequest::Asked(LiveRequest::Domain(WholeRequest::Why { node })) => {
-            group.answer_why(rt, alloc, user, queued.number, *node)
+            group.answer_why(rt, alloc, user, *node)
         }
         QueuedRequest::Wrong(why) => {
             let lines = error_answer(alloc, group.name(user), queued.number, *why)?;

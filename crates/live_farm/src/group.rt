@@ -48,6 +48,34 @@ impl UserGroup<'_> {
         replay.replay(rt, service, domain, self.sessions.as_mut_slice(), outputs);
     }
 
+    /// Lets the domain rest until it is restarted, since memory ran out.
+    pub(crate) fn halt(&self) {
+        if let Some(session) = self.sessions.first() {
+            session.halt();
+        }
+    }
+
+    /// Lets the domain rest until it is restarted, since its records have too little room.
+    pub(crate) fn halt_for_records(&self) {
+        if let Some(session) = self.sessions.first() {
+            session.halt_for_records();
+        }
+    }
+
+    /// Lets the domain rest as if its records were full once its journal takes this many bytes.
+    pub(crate) fn bound_bytes(&self, bytes: u64) {
+        if let Some(session) = self.sessions.first() {
+            session.bound_bytes(bytes);
+        }
+    }
+
+    /// Lets the domain rest until the next line once it has recorded this many more events.
+    pub(crate) fn bound_events_of_line<R: Wait>(&self, rt: &R, events: u64) {
+        if let Some(session) = self.sessions.first() {
+            session.bound_events_of_line(rt, events);
+        }
+    }
+
     /// Ends all sessions, and adds their passes.
     pub fn end(self, passes: &mut Vec<UserPass>) -> Result<(), NoMemory> {
         let UserGroup {

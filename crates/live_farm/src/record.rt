@@ -71,6 +71,9 @@ pub trait SharedRecord {
     // Holds after a call of `sizes` whose result is this.
     ghost had_sizes: { Self → SpecSizes → Type 0 } = { λ _ _. ⊤ };
 
+    // Holds after a call of `bound` with this number of bytes.
+    ghost was_bound: { Self → ℕ → Type 0 } = { λ _ _. ⊤ };
+
     /// As [`DomainRecord::keep`], for the domain that was asked.
     fn keep<R: Wait>(
         &self,
@@ -92,8 +95,12 @@ pub trait SharedRecord {
     fn sizes<R: Wait>(&self, rt: &R) -> RecordSizes
         ensures { had_sizes self.now result };
 
-    /// As [`DomainRecord::remove_oldest`]. If nothing is recorded there is none.
-    fn remove_oldest<R: Wait>(&self, rt: &R) -> io::Result<Option<String>>;
+    /// As [`DomainRecord::bound`].
+    fn bound<R: Wait>(&self, rt: &R, bytes: u64)
+        ensures { was_bound self.now bytes };
+
+    /// As [`DomainRecord::remove_beyond`]. If nothing is recorded nothing is removed.
+    fn remove_beyond<R: Wait>(&self, rt: &R) -> io::Result<Option<String>>;
 
     /// As [`DomainRecord::path`]; nowhere if nothing is recorded.
     fn path<R: Wait>(&self, rt: &R, alloc: Global) -> Result<Option<String>, NoMemory>;
@@ -135,8 +142,12 @@ impl<S: RecordStore> SharedRecord for Mutex<DomainRecord<S>> {
         }
     }
 
-    fn remove_oldest<R: Wait>(&self, rt: &R) -> io::Result<Option<String>> {
-        self.lock(rt).remove_oldest()
+    fn bound<R: Wait>(&self, rt: &R, bytes: u64) {
+        self.lock(rt).bound(bytes);
+    }
+
+    fn remove_beyond<R: Wait>(&self, rt: &R) -> io::Result<Option<String>> {
+        self.lock(rt).remove_beyond()
     }
 
     fn path<R: Wait>(&self, rt: &R, alloc: Global) -> Result<Option<String>, NoMemory> {
@@ -174,7 +185,9 @@ impl SharedRecord for NoRecord {
         }
     }
 
-    fn remove_oldest<R: Wait>(&self, _rt: &R) -> io::Result<Option<String>> {
+    fn bound<R: Wait>(&self, _rt: &R, _bytes: u64) {}
+
+    fn remove_beyond<R: Wait>(&self, _rt: &R) -> io::Result<Option<String>> {
         Ok(None)
     }
 
@@ -279,8 +292,9 @@ pub(crate) fn keep_and_tell<R: Wait, K: SharedRecord, N: Notices>(
     }
 }
 
-/// Removes older records of a domain, the oldest first, as long as all together take more than their room. The newest stays. A
-/// notice names each that was removed. If one can't be removed a notice says why, and no more are removed.
+/// Removes older records of a domain, the oldest first, as long as all together take more than they may. The newest stays. A
+/// notice names each that was removed, and says how many bytes they may take. If one can't be removed a notice says why, and no more
+/// are removed.
 ///
 /// # Errors
 ///
@@ -293,10 +307,7 @@ pub(crate) fn trim_and_tell<R: Wait, K: SharedRecord, N: Notices>(
 ) -> Result<(), NoMemory> {
     let RecordOutputs { record, errors } = outputs;
     for _ in 0..record.sizes(rt).older {
-        if record.sizes(rt).all() <= room {
-            break;
-        }
-        let line = match record.remove_oldest(rt) {
+        let line = match record.remove_beyond(rt) {
             Ok(Some(path)) => format!(in alloc;
                 "{path}: removed, since the records of its domain take more than {room} bytes\n"
             )?,

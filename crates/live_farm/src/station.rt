@@ -361,7 +361,7 @@ fn settle_after<R: Wait>(
     is_asked: bool,
 ) {
     if matches!(queued.request, QueuedRequest::Wrong(NotDone::Memory)) {
-        group.service.halt(group.domain);
+        group.halt();
     }
     let user = usize::from(queued.user);
     if is_asked
@@ -369,7 +369,7 @@ fn settle_after<R: Wait>(
         && user < group.users()
         && group.settle(rt, alloc, user).is_err()
     {
-        group.service.halt(group.domain);
+        group.halt();
     }
 }
 
@@ -412,13 +412,13 @@ fn note_records<R: Wait, K: SharedRecord, N: Notices>(
     let sizes = outputs.record.sizes(rt);
     station.note_sizes(sizes);
     if is_used_up(sizes.newest, room) {
-        group.service.halt_for_records(group.domain);
+        group.halt_for_records();
     }
     if sizes.newest > 0
         && let Ok(status) = group.service.room_status(rt, group.domain)
     {
         let most = most_journal(status.bytes, sizes.newest, room);
-        group.service.bound_bytes(group.domain, most);
+        group.bound_bytes(most);
     }
     Ok(())
 }
@@ -500,7 +500,7 @@ fn answer_want<R: Wait, O: SharedOutlet>(
 )
     requires { queued.now.user < length group.now.sessions.items }
 {
-    group.service.halt(group.domain);
+    group.halt();
     station.count(queued);
     let name = match queued.request {
         QueuedRequest::OperatorRestart => "!",
@@ -521,9 +521,7 @@ fn let_go_on<R: Wait>(rt: &R, station: &Station<'_>, group: &UserGroup<'_>) {
     {
         station.rest_is_told.store(false, Ordering::SeqCst);
     }
-    group
-        .service
-        .bound_events_of_line(rt, group.domain, station.line_steps);
+    group.bound_events_of_line(rt, station.line_steps);
 }
 
 // Takes the next line and answers it; whether more may come. Once a write has failed nothing more is asked.
@@ -558,7 +556,7 @@ fn serve_next<R: Wait, K: SharedRecord, O: SharedOutlet, N: Notices>(
     true
 }
 
-// Replays what is to be replayed of the domain before its first line is answered.
+// Replays what is to be replayed of the domain before its first line is answered. Its record is bounded then by its room.
 fn replay_first<R: Wait, K: SharedRecord, P: Replay<K>, N: Notices>(
     rt: &R,
     alloc: Global,
@@ -566,7 +564,9 @@ fn replay_first<R: Wait, K: SharedRecord, P: Replay<K>, N: Notices>(
     group: &mut UserGroup<'_>,
     replay: &P,
     outputs: &RecordOutputs<'_, K, N>,
-) {
+)
+    ensures { K.was_bound outputs.now.«record».now station.now.record_room }
+{
     if station.meter.is_under_way() {
         group.replay(
             rt,
@@ -580,6 +580,7 @@ fn replay_first<R: Wait, K: SharedRecord, P: Replay<K>, N: Notices>(
         station.note(outputs.record.state(rt));
         station.meter.note_under_way(false);
     }
+    outputs.record.bound(rt, station.record_room());
     let_go_on(rt, station, group);
     let _ = note_records(rt, alloc, station, group, outputs);
 }

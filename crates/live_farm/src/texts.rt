@@ -22,8 +22,6 @@ pub enum NotDone {
     Busy,
     /// It, or what was answered before it, can't be recorded.
     Record,
-    /// What the domain answered can't be done again.
-    Journal,
     /// The room of the domain is used up.
     Full,
     /// There is no memory for it.
@@ -40,7 +38,6 @@ impl NotDone {
             NotDone::Long => "long",
             NotDone::Busy => "busy",
             NotDone::Record => "record",
-            NotDone::Journal => "journal",
             NotDone::Full => "full",
             NotDone::Memory => "memory",
         }

@@ -1,6 +1,8 @@
 //! A record that is there, replayed on its domain.
 ghost use Rattle.std.specs.Prelude.{◌≡◌, ◌++◌, IfOk, IfSome, string_bytes};
 ghost use Rattle.farm_records.specs.RecordText.{record_text, lines_of};
+ghost use Rattle.record_keeping.specs.Counts.{IsCountBefore};
+ghost use Rattle.record_files.specs.Takings.{IsTakenWith};
 
 use crate::finding::FoundRecord;
 use crate::meter::ReplayMeter;
@@ -130,13 +132,18 @@ impl<S: RecordStore, P: RecordSource<S> + Drop> RecordHistory<S, P> {
         &mut self,
         rt: &R,
         domain: &mut SeatedDomain,
-    ) -> Result<DomainRecord<S>, RecordFault> {
+    ) -> Result<DomainRecord<S>, RecordFault>
+        ensures { IfOk result (λ taken. IsCountBefore domain.new.journal taken.mark taken.commands) }
+    {
         let (store, head) = self.source.open(rt, domain)?;
         Ok(DomainRecord::of(self.alloc, store, head, domain.journal())?)
     }
 }
 
 impl<S: RecordStore, P: RecordSource<S> + Drop> History for RecordHistory<S, P> {
+    // The record that was taken counts the commands in the domain's journal.
+    ghost has_redone = { λ history domain. IsTakenWith history.taken domain.journal };
+
     fn redo<R: Wait>(&mut self, rt: &R, domain: &mut SeatedDomain) -> bool {
         let taken = self.take(rt, domain);
         let is_taken = taken.is_ok();

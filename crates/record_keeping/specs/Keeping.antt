@@ -1,5 +1,5 @@
 -- What the record of a domain keeps.
-use Rattle.std.specs.Prelude.{◌≡◌, ◌+◌, ◌<◌, ◌↔◌, ◌⊎◌, ℕ, Bool, true, false, List, length, Option, IsSome, vec_capacity, string_bytes, if◌then◌else◌}
+use Rattle.std.specs.Prelude.{◌≡◌, ◌≤◌, ◌+◌, ◌<◌, ◌↔◌, ◌⊎◌, ℕ, Bool, true, false, List, length, Option, IsSome, vec_capacity, string_bytes, if◌then◌else◌}
 use Rattle.plan_rules.specs.Data.{DomainData}
 use Rattle.domain_core.specs.declared.copying.Mark.{Mark}
 use Rattle.farm_records.specs.RecordText.{record_text, lines_of}
@@ -12,6 +12,12 @@ use Rattle.record_keeping.specs.Writing.{IsWritten}
 pub record IsSameRecord {S : Type 0} {g : _} (old new : DomainRecord S g) : Type 0 where
   pub head : new.head ≡ old.head
   pub places : vec_capacity new.room ≡ vec_capacity old.room
+
+-- this holds if the store of a record said that all records together take no more bytes than they may
+abbrev pub HoldsInRoom : {S : Type 0} {g : _} → (S → ℕ → Type 0) → (S → ℕ → Type 0) → DomainRecord S g → Type 0 → Type 0
+HoldsInRoom has_bytes has_older_bytes kept P =
+    (bytes older : ℕ) × has_bytes kept.store bytes × has_older_bytes kept.store older
+    × (bytes + older ≤ kept.most_bytes → P)
 
 -- a record kept what the journal of a domain of this number gained: pieces up to the mark that the record has now, and
 -- the last of them leaves room, unless there may be more. What is whole of the record gained exactly the lines of their

@@ -26,6 +26,8 @@ pub struct DomainRecord<S: RecordStore> {
     pub(crate) is_out: bool,
     // Whether it is known that the record holds its head alone.
     pub(crate) is_bare: bool,
+    // How many bytes all records of the domain may take.
+    pub(crate) most_bytes: u64,
     ghost in_range: { commands < 2 ^ 64 },
     ghost ready: { failed ≡ false → IsAllWhole S.contents S.whole store },
     ghost bare: { is_bare ≡ true → IsJust S.whole store (string_bytes head) } by { Prim.hlevel props },
@@ -47,6 +49,7 @@ impl<S: RecordStore> Drop for DomainRecord<S> {
             owes_next: _,
             is_out: _,
             is_bare: _,
+            most_bytes: _,
         } = self;
     }
 }

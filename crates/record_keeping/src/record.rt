@@ -1,9 +1,9 @@
 //! The record of a domain: an answer is written to it before anybody is given the answer.
-ghost use Rattle.std.specs.Prelude.{◌≡◌, ◌↔◌, ◌<◌, ◌≤◌, ◌+◌, ◌^◌, ◌||◌, ◌&&◌, ◌++◌, [], ◌∷◌, false, true, not, IfOk, OnOk, OnErr, IsErr, IsTrue, IfSome, length, vec_capacity, string_bytes};
+ghost use Rattle.std.specs.Prelude.{◌≡◌, ◌↔◌, ◌<◌, ◌≤◌, ◌+◌, ◌^◌, ◌||◌, ◌&&◌, ◌++◌, [], ◌∷◌, false, true, None, not, IfOk, OnOk, OnErr, IsErr, IsTrue, IfSome, length, vec_capacity, string_bytes};
 ghost use Rattle.std.specs.Io.KnownBytes.{Appends};
 ghost use Rattle.farm_records.specs.RecordText.{record_text, lines_of};
 ghost use Rattle.record_keeping.specs.Counts.{commands_among, saturated, IsCountBefore};
-ghost use Rattle.record_keeping.specs.Keeping.{KeepsGained, KeepsSome, IsSameRecord};
+ghost use Rattle.record_keeping.specs.Keeping.{HoldsInRoom, KeepsGained, KeepsSome, IsSameRecord};
 ghost use Rattle.record_keeping.specs.KeptPieces.{KeepsPieces, KeepsNothing};
 ghost use Rattle.record_keeping.specs.Pieces.{IsAtStart};
 ghost use Rattle.record_keeping.specs.Writing.{Becomes, IsAllWhole, IsJust};
@@ -123,6 +123,7 @@ impl<S: RecordStore> DomainRecord<S> {
             owes_next: false,
             is_out: false,
             is_bare: journal.len() == 0,
+            most_bytes: u64::MAX,
         })
     }
 
@@ -145,6 +146,7 @@ impl<S: RecordStore> DomainRecord<S> {
             owes_next: true,
             is_out: true,
             is_bare: false,
+            most_bytes: u64::MAX,
         })
     }
 
@@ -395,27 +397,47 @@ impl<S: RecordStore> DomainRecord<S> {
     }
 
     /// How many bytes of the record that is written to are whole.
-    pub fn bytes(&self) -> u64 {
+    pub fn bytes(&self) -> u64
+        ensures { S.has_bytes self.now.store result }
+    {
         self.store.bytes()
     }
 
     /// How many bytes the older records of the domain take.
-    pub fn older_bytes(&self) -> u64 {
+    pub fn older_bytes(&self) -> u64
+        ensures { S.has_older_bytes self.now.store result }
+    {
         self.store.older_bytes()
     }
 
-    /// Removes the oldest record of the domain, but never the one that is written to. Returns where it was, or `None` if there is
-    /// no older one.
+    /// Bounds how many bytes all records of the domain may take. Before that they may take any number.
+    pub fn bound(&mut self, bytes: u64)
+        ensures bound { self.new.most_bytes ≡ bytes }
+        ensures text { self.new.store ≡ self.old.store }
+        ensures mark { (self.new.mark ≡ self.old.mark) × (self.new.commands ≡ self.old.commands) }
+        ensures rest { (self.new.failed ≡ self.old.failed) × (self.new.owes_next ≡ self.old.owes_next) × (self.new.is_out ≡ self.old.is_out) }
+        ensures same { IsSameRecord self.old self.new }
+    {
+        self.most_bytes = bytes;
+    }
+
+    /// Removes the oldest record of the domain if all together take more bytes than they may, but never the one that is written to.
+    /// Returns where it was, or `None` if none was removed.
     ///
     /// # Errors
     ///
     /// The system's. All records stay.
-    pub fn remove_oldest(&mut self) -> io::Result<Option<String>>
+    // Six clauses: when nothing is removed, and what stays in each case.
+    pub fn remove_beyond(&mut self) -> io::Result<Option<String>>
+        ensures within { HoldsInRoom S.has_bytes S.has_older_bytes self.old (IfOk result (λ path. path ≡ None) × (self.new ≡ self.old)) }
         ensures text { S.whole self.new.store ≡ S.whole self.old.store }
         ensures mark { (self.new.mark ≡ self.old.mark) × (self.new.commands ≡ self.old.commands) }
         ensures rest { (self.new.failed ≡ self.old.failed) × (self.new.owes_next ≡ self.old.owes_next) × (self.new.is_out ≡ self.old.is_out) }
         ensures same { IsSameRecord self.old self.new }
     {
+        if self.bytes().saturating_add(self.older_bytes()) <= self.most_bytes {
+            return Ok(None);
+        }
         self.store.remove_oldest()
     }
 

@@ -1,5 +1,5 @@
 //! Where records are written.
-ghost use Rattle.std.specs.Prelude.{◌≡◌, ℕ, List, None, Option, IfSome, OnOk, OnErr};
+ghost use Rattle.std.specs.Prelude.{◌≡◌, ℕ, List, ⊤, None, Option, IfSome, OnOk, OnErr};
 ghost use Rattle.std.specs.Io.KnownBytes.{Appends};
 ghost use Rattle.record_keeping.specs.declared.store.NotKept.TheVariants.{Memory};
 ghost use Rattle.record_keeping.specs.Reasons.{reason_of};
@@ -20,6 +20,12 @@ pub trait RecordStore: Drop {
 
     // The text that the record held when a call had last succeeded, where it is known.
     ghost whole: { Self → Option (List ℕ) } = { λ _. None };
+
+    // Holds of what `bytes` says.
+    ghost has_bytes: { Self → ℕ → Type 0 } = { λ _ _. ⊤ };
+
+    // Holds of what `older_bytes` says.
+    ghost has_older_bytes: { Self → ℕ → Type 0 } = { λ _ _. ⊤ };
 
     /// Appends whole lines. When the call returns they are with the system, and on the disk if that was asked for.
     ///
@@ -53,10 +59,12 @@ pub trait RecordStore: Drop {
         ensures stays { whole self.new ≡ whole self.old };
 
     /// How many bytes the record that is written to takes, as its place counts them.
-    fn bytes(&self) -> u64;
+    fn bytes(&self) -> u64
+        ensures { has_bytes self.now result };
 
     /// How many bytes the older records of the domain take.
-    fn older_bytes(&self) -> u64;
+    fn older_bytes(&self) -> u64
+        ensures { has_older_bytes self.now result };
 
     /// Removes the oldest record of the domain, but never the one that is written to. Returns where it was, or `None` if there is no
     /// older one.

@@ -1,4 +1,4 @@
-use Rattle.std.proofs.Common.{◌≡◌, length, get_or, arith, ap, sym}
+use Rattle.std.proofs.Common.{length, arith, ap, sym}
 use Rattle.std.proofs.lemmas.List.Sums.{sum_by_more}
 use Rattle.farm_service.specs.Passes.{SessionValue}
 use Rattle.live_farm.proofs.asked.commands_of_sessions.Goals as goal

@@ -1,4 +1,4 @@
-use Rattle.std.proofs.Common.{◌≡◌, ◌<◌, ◌∙◌, rules, sym, ap, map, length, get_or}
+use Rattle.std.proofs.Common.{◌≡◌, ◌<◌, ◌∙◌, rules, ap, map, length, get_or}
 use Rattle.std.proofs.lemmas.List.{get_or-map, length-map, take_more_same}
 use Rattle.live_farm.specs.Names.{user_number_of}
 use Rattle.live_farm.proofs.farm_users.are_of.Goals as goal

@@ -1,6 +1,6 @@
 use Rattle.std.proofs.Common.{◌≡◌, ◌<◌, ℕ, rules, subst}
 use Rattle.std.specs.Prelude.{length}
-use Rattle.live_farm.specs.Closings.{HasListedAt, WasAskedAt, HaveListed, AllWereAsked}
+use Rattle.live_farm.specs.Closings.{HasListedAt, WasAskedAt}
 use Rattle.live_farm.proofs.Keeping.{below_more, if_ok, on_ok}
 use Rattle.live_farm.proofs.program.keep_rest.Goals as goal
 

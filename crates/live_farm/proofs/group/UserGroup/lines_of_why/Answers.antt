@@ -1,4 +1,4 @@
-use Rattle.std.proofs.Common.{◌≡◌, ◌≤◌, rules, inl, inr, sym, subst, ℕ, Option, Some, IfSome, length, slice_get, string_bytes}
+use Rattle.std.proofs.Common.{◌≤◌, rules, inl, inr, sym, subst, ℕ, Option, IfSome, length, slice_get, string_bytes}
 use Rattle.std.proofs.lemmas.Result.{IfOk-weaker}
 use Rattle.live_farm.specs.Groups.{LacksNode}
 use Rattle.live_farm.proofs.group.UserGroup.lines_of_why.Goals as goal
@@ -13,17 +13,12 @@ returns g c =
     (λ a is. (
       c.name-name.result.now,
       c.name-name.ensures,
-      inr (inl (subst (λ (n : Option ℕ). LacksNode group n name (string_bytes a.text)) (sym c.in-Some.is) (lacks, is))),
+      inr (subst (λ (n : Option ℕ). LacksNode group n name (string_bytes a.text)) (sym c.in-Some.is) (lacks, is)),
     ))
     c.no_node_answer.ensures
 
-pub returns-in-Ok : goal.returns-in-Ok
-returns-in-Ok g c =
+pub returns-2 : goal.returns-2
+returns-2 g c =
     IfOk-weaker c.why_answer.result _ _
     (λ a is. (c.name-name.result.now, c.name-name.ensures, inl (c.as_str.result.now, search rules, is)))
     c.why_answer.ensures
-
-pub returns-in-Err : goal.returns-in-Err
-returns-in-Err g c =
-    IfOk-weaker c.error_answer.result _ _ (λ a is. (c.name-name.result.now, c.name-name.ensures, inr (inr is)))
-    c.error_answer.ensures

@@ -1,0 +1,2 @@
+-- what only helps contracts
+pub mod Takings
