@@ -16,7 +16,7 @@ from tree import TOP
 OVERVIEW = "OVERVIEW.md"
 LINK = re.compile(r"(!?)\[([^\]]*)\]\(([^)#\s]*)(#[^)\s]*)?\)")
 # The pages for people who change the sources, which aren't installed.
-OF_SOURCES = ("CHANGING.md", "CODE_NOTES.md", "EVIDENCE.md", "PROOF_TIMES.md", "SCRIPTS.md")
+OF_SOURCES = ("CHANGING.md", "CODE_NOTES.md", "SCRIPTS.md")
 # What is of a clone alone: sections of pages, and what is written instead of sentences.
 SECTIONS = {"README.md": "What you need", "docs/PROGRAM.md": "Before the proof"}
 SENTENCES = (
