@@ -1,6 +1,7 @@
-"""The tables of PROMISES.md that a script writes: of each public call the clauses of its contract, with the definitions that each cites.
+"""The file docs/clauses.txt: for each of the sections 8 to 13 of PROMISES.md the files of definitions to believe, and of each public call
+the clauses of its contract, with the definitions that each cites.
 
-usage: python3 docs/clauses.py    writes them; docs/check compares
+usage: python3 docs/clauses.py    writes it; docs/check compares
 """
 
 import re
@@ -8,14 +9,15 @@ from collections.abc import Iterator
 from pathlib import Path
 
 ROOT = Path(__file__).resolve().parent.parent
-PROMISES = ROOT / "docs/PROMISES.md"
-# The head of a table; it ends at the next line that isn't a row.
-HEAD = "| Call | Clauses, each with the definitions that it cites |"
-LINE = "|---|---|"
-# The sections whose tables are written, each with the files whose public contracts it has, and with private functions whose contracts
+CLAUSES = ROOT / "docs/clauses.txt"
+HEAD = """# For each of the sections 8 to 13 of PROMISES.md, as `python3 docs/clauses.py` writes it: the files of definitions to believe, in the
+# order in which to read them, each with the first sentence of what it says of itself; and then the public calls. The line of a call has
+# after the colon its clauses, each with the definitions that it cites in brackets. A clause without a name is shown by its definitions.
+"""
+# The sections of PROMISES.md whose calls are written, each with the files whose public contracts it has, and with private functions whose contracts
 # carry a promise.
 SECTIONS = {
-    "## 8. The promises of the assembler": [
+    "8. The promises of the assembler": [
         "t414_assembly/src/codes.rt",
         "t414_assembly/src/spelling.rt",
         "t414_assembly/src/shortest.rt",
@@ -24,7 +26,7 @@ SECTIONS = {
         "t414_assembly/src/disassembly.rt",
         "t414_assembly/src/laws.rt",
     ],
-    "## 9. The program": [
+    "9. The program": [
         "plan_checker/src/read.rt",
         "farm_cli/src/command_line.rt",
         "farm_cli/src/reading.rt",
@@ -42,12 +44,12 @@ SECTIONS = {
         "answer_text/src/replies.rt",
         "event_text/src/events.rt",
     ],
-    "## 10. The lab on one thread": [
+    "10. The lab on one thread": [
         "farm_replay/src/replaying.rt",
         "script_replay/src/answering.rt",
         "script_replay/src/recording.rt",
     ],
-    "## 11. The farm that stays up": [
+    "11. The server": [
         "live_lines/src/command_line.rt",
         "live_lines/src/parsing.rt",
         "live_farm/src/fate.rt",
@@ -55,7 +57,7 @@ SECTIONS = {
         "live_farm/src/outlet.rt",
         "live_farm/src/program.rt",
     ],
-    "## 12. Records": [
+    "12. Records": [
         "farm_records/src/writing.rt",
         "farm_records/src/head.rt",
         "farm_records/src/redoing.rt",
@@ -64,7 +66,7 @@ SECTIONS = {
         "record_keeping/src/record.rt",
         "node_causes/src/finding.rt",
     ],
-    "## 13. The compiler of occam": [
+    "13. The compiler of occam": [
         "occam_code/src/expressions.rt",
         "occam_code/src/layout_laws.rt",
         "occam_code/src/process_laws.rt",
@@ -78,6 +80,109 @@ SECTIONS = {
         "occam_uses/src/laws.rt",
         "occam_units/src/reading.rt",
         "occam_units/src/compiling.rt",
+    ],
+}
+# What is to be believed in each section besides the files of those before it, in the order in which to read it.
+BELIEVED = {
+    "8. The promises of the assembler": [
+        "t414_assembly/specs/Spelled.antt",
+        "t414_assembly/specs/Usual.antt",
+        "t414_assembly/specs/Program.antt",
+        "t414_assembly/specs/Reassembled.antt",
+        "script_text/specs/Lines.antt",
+        "t414_assembly/specs/Faults.antt",
+    ],
+    "9. The program": [
+        "farm_cli/specs/Settings.antt",
+        "script_text/specs/Lines.antt",
+        "script_text/specs/Writing.antt",
+        "script_text/specs/Hexadecimal.antt",
+        "script_text/specs/HexFaults.antt",
+        "script_text/specs/ReadFaults.antt",
+        "script_lines/specs/Faults.antt",
+        "node_memory/specs/Faults.antt",
+        "script_lines/specs/Verbs.antt",
+        "script_lines/specs/Words.antt",
+        "script_lines/specs/Lines.antt",
+        "script_lines/specs/Script.antt",
+        "answer_text/specs/Digits.antt",
+        "answer_text/specs/Replies.antt",
+        "answer_text/specs/Results.antt",
+        "line_answers/specs/Asks.antt",
+        "line_answers/specs/Lines.antt",
+        "line_answers/specs/Sessions.antt",
+        "plan_rules/specs/Users.antt",
+        "farm_program/specs/Users.antt",
+        "farm_program/specs/Closing.antt",
+        "farm_program/specs/Screens.antt",
+        "farm_cli/specs/Requests.antt",
+        "farm_cli/specs/Failures.antt",
+        "farm_program/specs/Output.antt",
+        "farm_cli/specs/Endings.antt",
+        "farm_program/specs/Statuses.antt",
+    ],
+    "10. The lab on one thread": [
+        "event_text/specs/Events.antt",
+        "event_text/specs/Entries.antt",
+        "farm_replay/specs/Listing.antt",
+        "farm_replay/specs/Plain.antt",
+        "farm_replay/specs/Runs.antt",
+        "script_replay/specs/Lines.antt",
+    ],
+    "11. The server": [
+        "live_lines/specs/LiveRanges.antt",
+        "live_lines/specs/LiveSettings.antt",
+        "shorthand_lines/specs/ShorthandVerbs.antt",
+        "shorthand_lines/specs/QuotedTexts.antt",
+        "shorthand_lines/specs/ShorthandLines.antt",
+        "live_lines/specs/LiveVerbs.antt",
+        "live_lines/specs/LiveLines.antt",
+        "domain_core/specs/Moments.antt",
+        "record_following/specs/Following.antt",
+        "record_keeping/specs/Counts.antt",
+        "live_farm/specs/Names.antt",
+        "live_farm/specs/Asking.antt",
+        "node_causes/specs/Causes.antt",
+        "node_causes/specs/Explained.antt",
+        "live_farm/specs/LiveTexts.antt",
+        "live_farm/specs/Whys.antt",
+        "live_farm/specs/WholeLines.antt",
+        "live_farm/specs/Fates.antt",
+        "live_farm/specs/Closings.antt",
+        "live_farm/specs/Groups.antt",
+    ],
+    "12. Records": [
+        "farm_records/specs/RecordText.antt",
+        "farm_records/specs/Heads.antt",
+        "script_replay/specs/Recording.antt",
+        "farm_records/specs/Records.antt",
+        "farm_records/specs/Taking.antt",
+        "farm_records/specs/Laws.antt",
+        "record_keeping/specs/Writing.antt",
+        "record_keeping/specs/Pieces.antt",
+        "record_keeping/specs/Keeping.antt",
+    ],
+    "13. The compiler of occam": [
+        "occam_core/specs/Values.antt",
+        "occam_core/specs/Processes.antt",
+        "occam_core/specs/Traces.antt",
+        "occam_core/specs/Laws.antt",
+        "occam_core/specs/Bounds.antt",
+        "occam_uses/specs/Subscripts.antt",
+        "occam_uses/specs/Uses.antt",
+        "occam_uses/specs/Laws.antt",
+        "occam_units/specs/Units.antt",
+        "occam_code/specs/Instructions.antt",
+        "occam_code/specs/Words.antt",
+        "occam_code/specs/Expressions.antt",
+        "occam_code/specs/Guards.antt",
+        "occam_code/specs/Components.antt",
+        "occam_code/specs/Code.antt",
+        "occam_code/specs/Layout.antt",
+        "occam_code/specs/Machine.antt",
+        "occam_code/specs/Evaluates.antt",
+        "occam_code/specs/Alone.antt",
+        "occam_code/specs/Behaves.antt",
     ],
 }
 DEFINED = re.compile(r"^(?:abbrev |pub |law |record |data |def )+([\w-]+)", re.M)
@@ -112,40 +217,51 @@ def contracts(path: Path) -> Iterator[tuple[str, list[tuple[str, str]]]]:
 
 
 def row(name: str, clauses: list[tuple[str, str]], known: set[str]) -> str:
-    """The row of a call."""
+    """The line of a call."""
     told = []
     for clause, text in clauses:
         cited = [it for it in dict.fromkeys(re.findall(r"[\w-]+", text)) if it in known and it != clause]
-        names = ", ".join(f"`{it}`" for it in cited)
-        told.append((f"`{clause}`" if clause else "") + (f" ({names})" if names and clause else names))
-    return f"| `{name}` | {'; '.join(it for it in told if it) or 'its one clause'} |"
+        names = ", ".join(cited)
+        told.append(clause + (f" ({names})" if names and clause else names))
+    return f"{name}: {'; '.join(it for it in told if it) or 'its one clause'}"
 
 
-def table_of(files: list[str], known: set[str], top: Path) -> list[str]:
-    """The table of a section."""
+def rows_of(files: list[str], known: set[str], top: Path) -> list[str]:
+    """The lines of a section."""
     rows = []
     for path in (top / "crates" / file for file in files):
         cited = known & set(
             re.findall(r"[\w-]+", " ".join(re.findall(r"ghost use (.*?);", path.read_text(encoding="utf-8"), re.S)))
         )
         rows += [row(name, told, cited) for name, told in contracts(path)]
-    return [HEAD, LINE, *dict.fromkeys(rows)]
+    return [*dict.fromkeys(rows)]
 
 
-def written(page: str, top: Path) -> str:
-    """The page with its tables as they should be."""
-    known, lines, made = defined(top), page.split("\n"), list[str]()
-    section, is_within = "", False
-    for line in lines:
-        section = line if line.startswith("## ") else section
-        if line == HEAD and section in SECTIONS:
-            made += table_of(SECTIONS[section], known, top)
-            is_within = True
-        elif not is_within or not line.startswith("|"):
-            is_within = False
-            made.append(line)
-    return "\n".join(made)
+def head_of(path: Path) -> str:
+    """The first sentence of what a file of definitions says of itself."""
+    said = []
+    for line in path.read_text(encoding="utf-8").split("\n"):
+        if not line.startswith("-- "):
+            break
+        said.append(line.removeprefix("-- "))
+    return re.split(r"(?<=\.)\s+(?=[A-Z])", " ".join(said))[0]
+
+
+def written(top: Path) -> str:
+    """The file as it should be."""
+    known = defined(top)
+    parts = [
+        "\n".join(
+            [
+                section,
+                *(f"crates/{it}: {head_of(top / 'crates' / it)}" for it in BELIEVED[section]),
+                *rows_of(files, known, top),
+            ]
+        )
+        for section, files in SECTIONS.items()
+    ]
+    return HEAD + "\n" + "\n\n".join(parts) + "\n"
 
 
 if __name__ == "__main__":
-    PROMISES.write_text(written(PROMISES.read_text(encoding="utf-8"), ROOT), encoding="utf-8")
+    CLAUSES.write_text(written(ROOT), encoding="utf-8")

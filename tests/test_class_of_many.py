@@ -127,7 +127,7 @@ def test_installed(folder: str) -> None:
     script = f"""set -e; cd {place}; printf 'Ada\\nBob\\n' > names
 class --students names --nodes 1 one > /dev/null; class start one > /dev/null
 printf 'join 0 1\\nload 0 hello.occ\\ncollect 0\\n' | connect one/farm-1 ada; class stop one > /dev/null
-grep -c "^The user's guide: {prefix}/share/doc/nadzsumek/guides/USER.md$" one/sheets/ada.txt
+grep -c "^The user's guide: {prefix}/share/doc/nadzsumek/guides/USER.html$" one/sheets/ada.txt
 farm < {prefix}/lib/nadzsumek/examples/word-plus-one.farm | tail -n 1; echo 21f5 | lab disassemble; id -un"""
     told = done([*runs, "env", f"PATH={own['PATH']}", "bash", "-c", script], env=own).splitlines()
     assert told[:-1] == [*GREETED, "1", "bob peek 0 00000000", "stopp"]

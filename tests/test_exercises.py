@@ -406,16 +406,16 @@ def test_the_wall_is_no_event() -> None:
         )
 
 
-def test_guides_quote_the_exercises() -> None:
-    """Each folder of the examples stands in one guide, with its task word by word; and it has two wrong programs at least, unless it
-    is the one of the guide for teachers."""
+def test_guides_name_the_exercises() -> None:
+    """Each folder of the examples is in one guide, with its title; it has a task, and two wrong programs at least, unless it is the
+    one of the guide for teachers."""
     pages = [text_of(f"{TOP}/docs/guides/{it}") for it in ("PROGRAMMING.md", "OCCAM_EXERCISES.md")]
     folders = {
         name: place for name, place in exercises_in(EXERCISES).items() if os.path.isdir(place) and name != "total"
     }
     for name, place in folders.items():
-        rows = [it for page in pages for it in re.findall(rf"^- `{name}`: (.*?) \*Help:\* .*$", page, re.MULTILINE)]
-        assert (name, rows) == (name, [task_of(place)])
+        rows = [it for page in pages for it in re.findall(rf"^- `{name}`, (.*?): .*$", page, re.MULTILINE)]
+        assert (name, rows, bool(task_of(place))) == (name, [exercise_in(place).title], True)
         assert len([it for it in os.listdir(place) if it.startswith("wrong-")]) >= 2, name
     nodes = {name for name, place in folders.items() if exercise_in(place).machine.nodes > 1}
     assembly = {name for name, place in folders.items() if os.path.exists(f"{place}/solution.s")}

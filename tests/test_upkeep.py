@@ -4,6 +4,7 @@ installations that fail or are stopped."""
 import contextlib
 import fcntl
 import glob
+import html.parser
 import os
 import re
 import shutil
@@ -187,6 +188,52 @@ def test_installations_stay(folder: str) -> None:
             with contextlib.suppress(ProcessLookupError):
                 os.killpg(installing.pid, sent)
         works()
+
+
+class Reader(html.parser.HTMLParser):
+    """What a page for a browser has: links, names to which links lead, blocks, and its text outside of code."""
+
+    def __init__(self, path: str) -> None:
+        super().__init__()
+        self.links: list[str] = []
+        self.names: set[str] = set()
+        self.blocks, self.depth, self.text = 0, 0, ""
+        self.feed(contents(path).decode())
+
+    def handle_starttag(self, tag: str, attrs: list[tuple[str, str | None]]) -> None:
+        self.blocks += tag == "pre"
+        self.depth += tag in ("code", "style")
+        for name, value in attrs:
+            if name in ("href", "src") and value:
+                self.links.append(value)
+            elif name == "id" and value:
+                self.names.add(value)
+
+    def handle_endtag(self, tag: str) -> None:
+        self.depth -= tag in ("code", "style")
+
+    def handle_data(self, data: str) -> None:
+        self.text += "" if self.depth else data
+
+
+def test_installed_pages_are_read_in_a_browser(folder: str) -> None:
+    """Beside each installed page is one for a browser, with all its blocks, whose links lead to such pages and to names in them. What
+    is left of Markdown is in code alone."""
+    prefix = f"{folder}/prefix"
+    assert ran(f"{TOP}/tools/install", "--draft", prefix)[::2] == (0, "")
+    marked = glob.glob(f"{prefix}/share/doc/nadzsumek/**/*.md", recursive=True)
+    pages = {it: Reader(f"{it.removesuffix('.md')}.html") for it in marked}
+    names = {f"{it.removesuffix('.md')}.html": page.names for it, page in pages.items()}
+    assert len(pages) > 30
+    for path, page in pages.items():
+        assert (path, page.blocks) == (path, len(re.findall(r"^```\w*$", contents(path).decode(), re.M)) // 2)
+        assert (path, re.findall(r"\]\(|```|\*\*", page.text)) == (path, [])
+        for link in page.links:
+            target, _, name = link.partition("#")
+            there = os.path.normpath(os.path.join(os.path.dirname(path), target)) if target else f"{path[:-3]}.html"
+            if "://" not in link:
+                assert (path, link, os.path.exists(there), target.endswith(".md")) == (path, link, True, False)
+                assert (path, link, not name or name in names[there]) == (path, link, True)
 
 
 def files_below(folder: str) -> set[str]:

@@ -1,6 +1,7 @@
 """Copies the pages below PREFIX, for tools/install. A page says there what is so of an installation: commands are called by their names
 alone, examples and the package for Python are where they are installed, and what is of a clone of the repository alone is left out. Each
-link leads to what is there, or is left out and its words stay.
+link leads to what is there, or is left out and its words stay. Beside each page in Markdown is one for a browser, if this Python can make
+it (tools/reading.py).
 
 usage: python3 -B tools/installed.py PREFIX
        python3 -B tools/installed.py --places    tells where the pages are put below PREFIX
@@ -10,13 +11,14 @@ import re
 import sys
 from collections.abc import Iterator
 
+from reading import NEEDED, is_possible, page_of
 from tree import TOP
 
 # What is called README.md at the top has another name beside the one of docs/.
 OVERVIEW = "OVERVIEW.md"
 LINK = re.compile(r"(!?)\[([^\]]*)\]\(([^)#\s]*)(#[^)\s]*)?\)")
 # The pages for people who change the sources, which aren't installed.
-OF_SOURCES = ("CHANGING.md", "CODE_NOTES.md", "EVIDENCE.md", "PROOF_TIMES.md", "SCRIPTS.md")
+OF_SOURCES = ("CHANGING.md", "CODE_NOTES.md", "SCRIPTS.md")
 # What is of a clone alone: sections of pages, and what is written instead of sentences.
 SECTIONS = {"README.md": "What you need", "docs/PROGRAM.md": "Before the proof"}
 SENTENCES = (
@@ -107,9 +109,24 @@ def installed(text: str, page: str, prefix: str, places: dict[str, str]) -> str:
     return re.sub(r"\n{3,}", "\n\n", "\n".join(lines)).rstrip("\n") + "\n"
 
 
+def for_browser(place: str) -> str:
+    """The place of a page for a browser, beside that of the page in Markdown."""
+    return f"{os.path.splitext(place)[0]}.html"
+
+
+def put(place: str, text: str) -> None:
+    """Writes a page, whole."""
+    with open(f"{place}.new", "w", encoding="utf-8") as it:
+        it.write(text)
+    os.replace(f"{place}.new", place)
+
+
 def main(words: list[str]) -> int:
     if words == ["--places"]:
-        print(*(f"share/doc/nadzsumek/{place}" for _, place in pages()), sep="\n")
+        for _, place in pages():
+            print(f"share/doc/nadzsumek/{place}")
+            if is_possible():
+                print(f"share/doc/nadzsumek/{for_browser(place)}")
         return 0
     (prefix,) = words
     places = {page: f"{prefix}/share/doc/nadzsumek/{place}" for page, place in pages()}
@@ -117,9 +134,11 @@ def main(words: list[str]) -> int:
         os.makedirs(os.path.dirname(place), exist_ok=True)
         with open(page, encoding="utf-8") as it:
             text = installed(it.read(), page, prefix, places)
-        with open(f"{place}.new", "w", encoding="utf-8") as it:
-            it.write(text)
-        os.replace(f"{place}.new", place)
+        put(place, text)
+        if is_possible():
+            put(for_browser(place), page_of(text))
+    if not is_possible():
+        print(f"install: note: {NEEDED}", file=sys.stderr)
     return 0
 
 

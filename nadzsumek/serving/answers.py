@@ -42,7 +42,6 @@ MEANINGS = (
         "the room of your machine is used up, so nothing was done: restart begins anew with a room",
     ),
     (r"(! )?error \d+ memory", "there was no memory, and it may be done in part: your machine rests until restart"),
-    (r"(! )?error \d+ journal", "what your machine did can't be done again: tell the operator"),
     (r"! error \d+ user", "there is no such user: users lists them"),
     (r"look \d+ halted 1 .*", "an address outside memory"),
     (r"look \d+ halted 2 .*", "an operation that isn't there"),

@@ -125,6 +125,12 @@ def others(machine: Machine) -> str:
     return "".join(told)
 
 
+def guide(ways: Ways, name: str) -> str:
+    """The path of a guide: of the page for a browser, if there is one."""
+    page = os.path.join(ways.guides, f"{name}.html")
+    return page if os.path.exists(page) else os.path.join(ways.guides, f"{name}.md")
+
+
 def sheet(person: str, name: str, machine: Machine, folder: str, ways: Ways) -> str:
     """The sheet of one student."""
     what = (
@@ -145,7 +151,7 @@ def sheet(person: str, name: str, machine: Machine, folder: str, ways: Ways) -> 
         port=machine.link_port(0),
         host=machine.host_port(0),
         others=others(machine),
-        guide=os.path.join(ways.guides, "USER.md"),
-        occam=os.path.join(ways.guides, "LEARNING_OCCAM.md"),
-        assembly=os.path.join(ways.guides, "PROGRAMMING.md"),
+        guide=guide(ways, "USER"),
+        occam=guide(ways, "LEARNING_OCCAM"),
+        assembly=guide(ways, "PROGRAMMING"),
     )

@@ -8,7 +8,14 @@ from support.screens import CONTROL_D, Screen
 MOST_SECONDS = 30
 # How long the screen must stay as it is before the next line is typed.
 CALM_SECONDS = 0.1
-PROMPT = re.compile(r"\w+> ")
+PROMPT = re.compile(r"\w+> |.*\(y/n\) ")
+# How many events there were depends on how the threads of a farm took turns, so any number of them is as good as another.
+EVENTS = re.compile(r"\b(after|event) \d+\b")
+
+
+def steady(text: str) -> str:
+    """A text with one number for all numbers of events."""
+    return EVENTS.sub(r"\1 N", text)
 
 
 def lines_of(screen: Screen) -> str:
@@ -21,7 +28,7 @@ def comes_to(screen: Screen, wanted: str) -> bool:
     """Waits until the screen shows this, and stays so; false if it doesn't come to that."""
     until, calm = time.monotonic() + MOST_SECONDS, None
     while time.monotonic() < until:
-        is_there = lines_of(screen) == wanted
+        is_there = steady(lines_of(screen)) == steady(wanted)
         calm = (calm or time.monotonic()) if is_there else None
         if calm and time.monotonic() - calm >= CALM_SECONDS:
             return True
@@ -31,7 +38,7 @@ def comes_to(screen: Screen, wanted: str) -> bool:
 
 
 def shown_by(block: str, folder: str, **variables: str) -> str:
-    """What a terminal shows if the session of a block is held in a folder: its first line is `$` and a command, and behind each
+    """What a terminal shows, with steady numbers of events, if the session of a block is held in a folder: its first line is `$` and a command, and behind each
     prompt stands what is typed there; nothing behind the last prompt is the end of the input. What comes first is typed as
     soon as the screen shows what the block has above it; if it never does, the session ends there."""
     first, *lines = block.splitlines(keepends=True)
@@ -49,4 +56,4 @@ def shown_by(block: str, folder: str, **variables: str) -> str:
         until = time.monotonic() + MOST_SECONDS
         while not screen.has_ended and time.monotonic() < until:
             screen.more(CALM_SECONDS)
-        return first + lines_of(screen)
+        return steady(first + lines_of(screen))

@@ -1,0 +1,2 @@
+class stop course
+class stop pair
