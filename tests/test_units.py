@@ -1,5 +1,5 @@
 """Units of occam that no front end should write: the lab refuses each with fault 45 and the place of what is wrong, and a right one
-beside it is compiled. What is expected is worked by hand from docs/OCCAM.md, "The unit"."""
+beside it is compiled. What is expected is worked by hand from what nadzsumek/occam/unit.py says of a unit."""
 
 import json
 import os
