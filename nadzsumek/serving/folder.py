@@ -170,13 +170,18 @@ def group_name(number: int) -> grp.struct_group:
 def holder(folder: str) -> int | None:
     """The number of the process that serves the folder at present; none if there is none. To look at the lock takes no
     lock."""
+    return holder_of(os.path.join(folder, "lock"))
+
+
+def holder_of(path: str) -> int | None:
+    """The number of the process that has locked a file; none if there is none."""
     try:
-        file = os.open(os.path.join(folder, "lock"), os.O_RDONLY | os.O_NOFOLLOW)
+        file = os.open(path, os.O_RDONLY | os.O_NOFOLLOW)
     except FileNotFoundError:
         return None
     except PermissionError:
         raise Refused(
-            f"this account ({account_name(os.geteuid())}) may not see who has {folder}: "
+            f"this account ({account_name(os.geteuid())}) may not see who has {os.path.dirname(path)}: "
             f"ask the account that started the farm there"
         ) from None
     try:

@@ -6,6 +6,7 @@ import asyncio
 import contextlib
 import json
 import os
+import sqlite3
 import time
 from collections.abc import AsyncIterator, Awaitable, Callable
 from functools import partial
@@ -19,6 +20,7 @@ from ..course.judging import Judge
 from ..course.telling import REFUSED
 from ..farm import Farm
 from ..mistakes.verbs import Wrong
+from ..serving.folder import CLASS, Refused
 from ..serving.programs import ASSEMBLY, OCCAM
 from ..serving.tiles import tiles_of
 from ..serving.wall import Nodes
@@ -96,6 +98,8 @@ class Site:
         # the connections by which a whole request has come
         self.seen = WeakSet[asyncio.Transport]()
         self.runs, self.nodes = asyncio.Semaphore(MOST_RUNS), Nodes()
+        # called when the class has changed: who came since gets an address
+        self.came: Callable[[], None] = lambda: None
         self.wall_turn, self.wall_at, self.wall_tiles = asyncio.Lock(), 0.0, list[dict[str, str]]()
 
     def application(self) -> web.Application:
@@ -289,11 +293,23 @@ class Site:
             for it in tiles_of(self.course, self.nodes)
         ]
 
+    def last_change(self) -> int:
+        """When what is kept of the class was written last."""
+        try:
+            return os.stat(os.path.join(self.course, CLASS)).st_mtime_ns
+        except OSError:
+            return 0
+
     async def watch(self, runner: web.AppRunner) -> None:
         """Ends connections by which no whole request has come in time, and the newest if there are too many."""
         since: dict[int, float] = {}
+        changed = self.last_change()
         while True:
             await asyncio.sleep(LOOK_SECONDS)
+            if self.last_change() != changed:
+                changed = self.last_change()
+                with contextlib.suppress(Refused, OSError, sqlite3.Error):
+                    await asyncio.to_thread(self.came)
             now, there = time.monotonic(), [*(runner.server.connections if runner.server else ())]
             since = {id(it): since.get(id(it), now) for it in there}
             for at, it in enumerate(there):
