@@ -21,7 +21,8 @@ _MODULES = {
     "load_ipython_extension": "notebook",
     **dict.fromkeys(("FarmError", "NoFarm", "NotAnswered", "Refused"), "failures"),
     **dict.fromkeys(
-        ("Checked", "Exercise", "HandedIn", "Loaded", "Look", "Note", "Rest", "State", "Tested", "Why"), "results"
+        ("Checked", "Exercise", "HandedIn", "Loaded", "Look", "Note", "Rest", "State", "Tested", "Watched", "Why"),
+        "results",
     ),
 }
 __all__ = [
@@ -39,6 +40,7 @@ __all__ = [
     "Rest",
     "State",
     "Tested",
+    "Watched",
     "Why",
     "load_ipython_extension",
     "serve",

@@ -60,6 +60,10 @@ class Farm:
         except folders.Refused as refused:
             raise NoFarm(f"{refused}") from None
 
+    def user_ports(self, name: str) -> Ports | None:
+        """The ports of this user; none if the plan can't be read."""
+        return ports_of(*self.place(name))
+
     def user(self, name: str, noted: Noted | None = None, seconds: float = SECONDS) -> User:
         """A connection as this user, to be used in `with`. `noted` is called with each note that comes, and `seconds` is how long
         an answer is waited for."""

@@ -10,6 +10,7 @@ from typing import Any
 
 from nadzsumek.course import telling
 from nadzsumek.serving.answers import bytes_taken, meaning, refusal, shortfall
+from nadzsumek.serving.ports import drivers_in
 
 from .failures import NotAnswered, Refused
 
@@ -54,6 +55,25 @@ class Why:
 
     def __str__(self) -> str:
         return "\n".join(self.lines)
+
+
+@dataclasses.dataclass(frozen=True)
+class Watched:
+    """What a machine does: a number that changes with it, how many lines its user has sent, the events that are recorded and how many
+    may be, the bytes of the rooms that are used and that there are, and of each port the port that drives it, none if none does.
+    """
+
+    number: int
+    lines: int
+    events: int
+    limit: int
+    rest: Rest
+    is_replayed: bool
+    used: int | None
+    room: int | None
+    records_used: int | None
+    records_room: int | None
+    drivers: dict[int, int | None] = dataclasses.field(hash=False)
 
 
 @dataclasses.dataclass(frozen=True)
@@ -203,6 +223,18 @@ OF_COURSE: dict[str, Callable[[dict[str, Any]], object]] = {
 }
 
 
+def watched_of(words: list[str]) -> Watched:
+    """What `watch` tells: its number, what the operator is told of the user, and the ports."""
+    at = words.index("ports")
+    number, lines, events, limit, *more = words[1:at]
+    rooms: list[int | None] = [int(it) for it in more if it.isdigit()]
+    used, room, records_used, records_room = rooms if len(rooms) == 4 else [None, None, None, None]
+    rest = Rest.FULL if "rests" in more else Rest.BUSY if "busy" in more else Rest.QUIET
+    counts = int(number), int(lines), int(events), int(limit)
+    drivers = drivers_in(" ".join(words[at:])) or {}
+    return Watched(*counts, rest, "replaying" in more, used, room, records_used, records_room, drivers)
+
+
 def config_of(words: list[str]) -> bytes:
     return bytes.fromhex("".join(it for it in words if it != "-"))
 
@@ -219,6 +251,7 @@ OF_WORDS: dict[str, Callable[[list[str]], object]] = {
     "look": lambda words: look_of(words[2:]),
     "rest": lambda words: Rest(words[1]),
     "restart": lambda words: None,
+    "watch": lambda words: watched_of(words),
 }
 
 

@@ -14,7 +14,7 @@ from nadzsumek.serving.orders import lines_of, loading
 from nadzsumek.serving.texts import quoted
 
 from .failures import FarmError
-from .results import Loaded, result_of
+from .results import Loaded, Watched, result_of
 
 # How many bytes of code can be booted at once; longer code is poked first.
 MOST_BOOT = 255
@@ -171,6 +171,11 @@ class Verbs:
     def submitted(self, number: int | None = None) -> Any:
         """What the user has handed in, the oldest first, each a `HandedIn`; or the one with this number, with its text."""
         return self.do(question("submitted" if number is None else f"submitted {number:d}"))
+
+    def watch(self, last: Watched | None = None) -> Any:
+        """What the machine does, a `Watched`: at once, or if the last one is given when it has changed since, or 50 seconds have passed.
+        No other call of the connection is answered meanwhile, so give it one of its own."""
+        return self.do(Question(["watch" if last is None else f"watch {last.number}"]))
 
     def restart(self) -> Any:
         """Makes the user's machine as it was opened, if it is his alone."""

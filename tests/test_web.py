@@ -63,14 +63,16 @@ def test_mistakes_change_nothing(pages: Pages) -> None:
     told = pages.run("student-1", "INT x:\nSEQ\n  x := y\n")
     assert [(it["line"], it["column"]) for it in told["mistakes"]] == [(3, 8)]
     assert pages.post("student-1", "/line", line="send 0 Z").told()["lines"] == ["write 0 1"]
-    assert pages.post("student-1", "/line", line="collect 0").told()["lines"] == ["collect 0 5b"]
+    assert pages.post("student-1", "/line", line="collect 0").told()["lines"] == ['collect 0 5b  "["']
 
 
 def test_lines(pages: Pages) -> None:
     """Any line of a terminal is answered, but those that read files of the server."""
-    assert pages.post("student-2", "/line", line="ports").told()["lines"] == ["ports 0:- 1:-"]
+    told = pages.post("student-2", "/line", line="ports").told()["lines"]
+    assert told == ["ports 0:- 1:-", "  (nothing is joined: join joins two ports)"]
+    assert pages.post("student-2", "/line", line="help look").told()["lines"][0].startswith("look 0 ")
     assert pages.post("student-2", "/line", line="look 0").told()["lines"] == ["look 0 booting overruns 0 0 0 0"]
-    for line in ("load 0 /etc/passwd", "load /etc/passwd", "boot 0", "nonsense", "!stop", "help", "look 0\nlook 0", ""):
+    for line in ("load 0 /etc/passwd", "load /etc/passwd", "boot 0", "nonsense", "!stop", "quit", "look 0\nlook 0", ""):
         told = pages.post("student-2", "/line", line=line).told()
         assert ([*told], "root:" in told["error"]) == (["error"], False), line
     assert pages.post("student-2", "/line", line="look 0").told()["lines"] == ["look 0 booting overruns 0 0 0 0"]
@@ -126,8 +128,12 @@ def test_others_are_kept_out(pages: Pages) -> None:
     for path in ("/wall", "/text?of=student-1"):
         it = pages.get("student-2", path)
         assert (path, it.status, "student-1" in it.text) == (path, 403 if path == "/wall" else 200, False)
-    for path in ("/live", "/film"):
-        assert pages.get("teacher", path).status == 403
+    for path in ("/live", "/film", "/state", "/versions", "/film?of=nobody", "/state?of=../x"):
+        assert (path, pages.get("teacher", path).status) == (path, 403)
+    for path in ("/submissions", "/marks.csv"):
+        assert (path, pages.get("student-2", path).status) == (path, 403)
+    for path in ("/state?of=student-1", "/versions?of=student-1"):
+        assert pages.get("student-2", path).told() == pages.get("student-2", path.partition("?")[0]).told()
     assert pages.post("teacher", "/line", line="ports").status == 403
     cookie = {"Cookie": f"nadzsumek={pages.secret('student-2')}"}
     body = json.dumps({"line": "restart"}).encode()
@@ -177,7 +183,7 @@ def test_odd_requests(pages: Pages) -> None:
 
 def test_headers(pages: Pages) -> None:
     """Nothing is loaded from elsewhere, and no answer is kept or shown in another site."""
-    for path in ("/", "/files/page.css", "/files/student.js", "/text", "/nowhere"):
+    for path in ("/", "/files/page.css", "/files/student.js", "/files/editor.js", "/guide/USER", "/text", "/nowhere"):
         it = pages.get("student-1", path)
         policy = it.headers["Content-Security-Policy"]
         assert (path, "default-src 'none'" in policy, "unsafe" in policy) == (path, True, False)
@@ -242,6 +248,7 @@ def test_tls(pages: Pages) -> None:
         *names,
     ]
     subprocess.run(call, check=True, capture_output=True)
+    assert pages.end() == 0
     web = pages.served("--cert", cert, "--key", key, "--address", f"https://localhost:{port}", place=f"{HOST}:{port}")
     try:
         context = ssl.create_default_context(cafile=cert)
@@ -257,13 +264,14 @@ def test_tls(pages: Pages) -> None:
         clear.close()
     finally:
         assert pages.end(web) == 0
+        pages.web = pages.served()
 
 
 def test_words(pages: Pages) -> None:
     """What the command refuses."""
     wrong = (
         (["--listen", "0.0.0.0:1"], "at 0.0.0.0 secrets would go over the network as they are"),
-        (["--listen", pages.place], f"the site can't listen at {pages.place}"),
+        (["--listen", f"{HOST}:{free_port()}"], "are served already, by process"),
         (
             ["--cert", f"{pages.folder}/class.json", "--key", f"{pages.folder}/class.json"],
             "are no certificate and its key",

@@ -226,8 +226,10 @@ def stop(folder: str) -> int:
     own_class(folder)
     with hold(folder, fcntl.LOCK_SH, mends=False):
         tell(folder, LEAVE_OFF)
-        works: list[Work] = [StopSite(os.path.abspath(folder))] if keeper_of(folder) is not None else []
-        return do_all(works + [Stop(farm, folder) for farm in own_class(folder).farms])
+        kept = own_class(folder)
+        # pages that class web serves by itself stay: they say that the farms are away
+        works: list[Work] = [StopSite(os.path.abspath(folder))] if kept.web is not None and keeper_of(folder) else []
+        return do_all(works + [Stop(farm, folder) for farm in kept.farms])
 
 
 def status(folder: str) -> int:

@@ -261,9 +261,8 @@ class Supervisor:
             with contextlib.suppress(ProcessLookupError):
                 signal.pidfd_send_signal(process_of_others, signal.SIGTERM)
         # serve ends by itself within a minute
-        if self.pages is not None:
-            self.pages.terminate()
-            self.pages.wait()
+        if self.has_pages and sites.keeper_of(self.course) is not None:
+            sites.StopSite(self.course).done()
         statuses = [process.wait() for process in self.children.values()]
         for process_of_others in self.others.values():
             select.select([process_of_others], [], [])

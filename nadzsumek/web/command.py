@@ -155,7 +155,9 @@ async def serve(site: Site, it: argparse.Namespace, place: socket.socket, up: Ca
         loop.add_signal_handler(one, ended.set)
     runner = web.AppRunner(site.application(), access_log=None, keepalive_timeout=30, handle_signals=False)
     await runner.setup()
-    watching = asyncio.ensure_future(site.watch(runner))
+    if runner.server is not None:
+        site.doors.hang(runner.server)
+    watching = asyncio.ensure_future(site.watch())
     try:
         await web.SockSite(runner, place, ssl_context=tls, shutdown_timeout=1, backlog=MOST_WAITING).start()
         print(f"the pages of {escaped(it.DIR)} are at {url_of(it)}", flush=True)
