@@ -1,6 +1,5 @@
-"""Pages of a class: programs that are run from them, who comes in and who doesn't, what bounds requests, and a lesson in a real browser
-(long; Debian's chromium). It wants Debian's python3-aiohttp, which ./test installs. The folder that the variable PICTURES names gets
-pictures of the pages."""
+"""Pages of a class: programs that are run from them, who comes in and who doesn't, and what bounds requests. It wants Debian's
+python3-aiohttp, which ./test installs. What a browser shows is tried in test_web_browser.py."""
 
 import concurrent.futures
 import http.client
@@ -16,7 +15,6 @@ import time
 from collections.abc import Iterator
 
 import pytest
-from support import browser
 from support.pages import HOST, Pages, free_port
 from support.serving_trials import SECONDS
 from support.trials import NEXT, TOP, contents, put, text_of
@@ -30,11 +28,6 @@ INT x:
 SEQ
   c ! 1
   c ? x
-"""
-# Sends whatever its page must not take for its own words.
-MARKUP = """CHAN OF BYTE to:
-PLACE to AT link0.out:
-out.string ("<img src=x onerror=alert(1)>", to)
 """
 LETTERS_AND_MORE = {"count": 3, "letters": '"IBM"', "numbers": None, "hex": "49 42 4d"}
 
@@ -332,53 +325,6 @@ def test_thirty_do_the_first_lesson() -> None:
         told = pages.get("teacher", "/wall").told()
         assert {it["name"] for it in told} == {*names}
         assert all("a deadlock" in it["why"] for it in told)
-
-
-def picture(it: browser.Browser, name: str) -> None:
-    if folder := os.environ.get("PICTURES"):
-        os.makedirs(folder, exist_ok=True)
-        it.picture(f"{folder}/{name}.png")
-
-
-@pytest.mark.browser
-@pytest.mark.skipif(not browser.is_there(), reason="there is no chromium: apt-get install chromium")
-def test_lesson_in_a_browser(pages: Pages) -> None:
-    """From the sheet's address to a program that answers, a mistake with its line, a deadlock by line, and the film; markup that a
-    program sends is shown as it is. Then the teacher's page."""
-    with browser.Browser(f"http://{pages.place}", f"ws://{pages.place}") as it:
-        it.size(1280, 800)
-        it.visit(pages.address("student-1"), "document.title.startsWith('student-1')")
-        assert it.look("location.pathname") == "/"
-        assert it.look("document.cookie") == ""
-
-        def run(text: str, send: str, until: str) -> None:
-            it.look(f"document.getElementById('text').value = {json.dumps(text)}")
-            it.look(f"document.getElementById('send').value = {json.dumps(send)}")
-            it.look("document.getElementById('run').click()")
-            it.wait_for(f"!document.getElementById('run').disabled && ({until})")
-
-        run(NEXT, "HAL", "document.getElementById('came').textContent.includes('IBM')")
-        assert "waits in line 7" in it.look("document.getElementById('why').textContent")
-        it.wait_for("document.getElementById('state').textContent.includes('it rests')")
-        picture(it, "student")
-        run("SEQ\n  x := 1\n", "", "document.getElementById('mistakes').textContent.includes('line 2, column 3')")
-        assert it.look("document.querySelector('#numbers .wrong').textContent.trim()") == "2"
-        run(DEADLOCK, "", "document.getElementById('why').textContent.includes('line 4')")
-        picture(it, "deadlock")
-        run(MARKUP, "", "document.getElementById('came').textContent.includes('<img src=x')")
-        assert it.look("document.querySelectorAll('#came img').length") == 0
-        it.look("document.getElementById('film').click()")
-        it.wait_for("document.getElementById('shown').src.includes('/film')")
-        time.sleep(1)
-        picture(it, "film")
-        it.size(390, 800)
-        assert it.look("document.documentElement.scrollWidth <= 390")
-        it.size(1280, 800)
-        it.visit(pages.address("teacher"), "document.querySelectorAll('.tile').length == 3")
-        it.look("document.querySelector('.tile').click()")
-        it.wait_for("document.getElementById('text').textContent.length > 5")
-        picture(it, "teacher")
-        assert it.faults == []
 
 
 ADDS = """CHAN OF INT from, to:

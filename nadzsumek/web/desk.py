@@ -41,6 +41,8 @@ MOST_STEPS, WHY_SECONDS, MOST_RECORD = 50_000_000, 5, 8 << 20
 MOST_SENT, MOST_SHOWN = 4096, 4096
 # What is wrong with a text, as the lab says it: the place, and what follows it.
 MISTAKE = re.compile(r"line (\d+)(?:, column (\d+))?: (.*)")
+# What is said of a node that has another program than the one that is named.
+OTHER_CODE = "has other code than its program"
 # Lines that a page doesn't ask: a file is one of the server's, and the program of the page is run by its button.
 FILES = "the page takes the program that it shows: press Run, Check or Submit"
 
@@ -299,7 +301,7 @@ class Desk:
         words, files = self.with_program(["why", record])
         ran = await self.labs.run(words, files, seconds=WHY_SECONDS, is_slow=True)
         told = ran.out.splitlines()[1:]
-        return told if ran.status == 0 and told else lines
+        return told if ran.status == 0 and told and OTHER_CODE not in ran.out else lines
 
     async def keep_telling(self) -> None:
         """Keeps what was told up to date, as long as a page hears it."""

@@ -220,6 +220,9 @@ class Site:
             raise web.HTTPForbidden(text="there is no such student in the class\n")
         if name not in self.desks:
             self.desks[name] = Desk(self.farm, name, self.labs)
+            if newest := self.book.newest(name):
+                # it may be what an earlier site has run; if it isn't, the lab says so
+                self.desks[name].program = Program(newest.kind, newest.text)
         return self.desks[name]
 
     def looked_at(self, request: web.Request) -> Desk:

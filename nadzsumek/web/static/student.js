@@ -114,7 +114,7 @@ function showState(told) {
   const picture = told.picture;
   $("picture").replaceChildren(...(picture ? [pictureOf(picture)] : []));
   $("why").replaceChildren(...(picture ? processesOf(picture, (_, line) => editor.goTo(line)) : []));
-  $("room").hidden = !told.room;
+  $("used").hidden = !told.room;
   if (told.room) {
     $("room").value = told.used / told.room;
     $("room").title = `${Math.round((100 * told.used) / told.room)} % of the room is used`;
