@@ -59,6 +59,17 @@ def test_mistakes_change_nothing(pages: Pages) -> None:
     assert pages.post("student-1", "/line", line="collect 0").told()["lines"] == ['collect 0 5b  "["']
 
 
+def test_other_programs_have_no_lines(pages: Pages) -> None:
+    """Of a program that came by hand no lines are said, and of the page's again when it is run again."""
+    told = pages.run("student-2", NEXT, "A")
+    assert told["why"][-1].endswith(" waits in line 7: from ? letter")
+    for line in ("reset 0", "boot 0 4021f5"):
+        pages.post("student-2", "/line", line=line)
+    assert not any(" in line " in it for it in pages.get("student-2", "/state").told()["why"])
+    assert pages.run("student-2", NEXT, "A")["why"][-1].endswith(" waits in line 7: from ? letter")
+    pages.post("student-2", "/line", line="restart")
+
+
 def test_lines(pages: Pages) -> None:
     """Any line of a terminal is answered, but those that read files of the server."""
     told = pages.post("student-2", "/line", line="ports").told()["lines"]

@@ -106,7 +106,10 @@ def test_bodies_without_end(pages: Pages) -> None:
     site = site_of(pages)
     head = HEAD.format(place=pages.place, secret=pages.secret("student-2"))
     with answered(pages, 5):
-        for kind, most in (("Transfer-Encoding: chunked\r\n\r\n", 4 << 20), ("Content-Length: 999999999\r\n\r\n", 4 << 20)):
+        for kind, most in (
+            ("Transfer-Encoding: chunked\r\n\r\n", 4 << 20),
+            ("Content-Length: 999999999\r\n\r\n", 4 << 20),
+        ):
             with socket.create_connection((HOST, pages.port), timeout=SECONDS) as it:
                 it.sendall((head + kind).encode())
                 sent, is_refused = 0, False
@@ -187,7 +190,9 @@ def test_markup(pages: Pages) -> None:
 
 def test_one_secret_has_a_bound_of_connections(pages: Pages) -> None:
     """Who has a secret, and opens hundreds, ends the own ones."""
-    head = f"GET /text HTTP/1.1\r\nHost: {pages.place}\r\nCookie: nadzsumek={pages.secret('student-3')}\r\n\r\n".encode()
+    head = (
+        f"GET /text HTTP/1.1\r\nHost: {pages.place}\r\nCookie: nadzsumek={pages.secret('student-3')}\r\n\r\n".encode()
+    )
     held = []
     for _ in range(120):
         it = socket.create_connection((HOST, pages.port), timeout=SECONDS)

@@ -57,6 +57,9 @@ class Page(browser.Browser):
         self.size(1280, 800)
         self.visit(pages.address(name), until)
 
+    def __enter__(self) -> "Page":
+        return self
+
     def text(self, name: str) -> str:
         return str(self.look(f"$({json.dumps(name)}).textContent"))
 
@@ -254,7 +257,9 @@ def test_thirty_tiles() -> None:
             it.wait_for("document.querySelectorAll('.tile.deadlock').length == 2")
             names = it.look("[...document.querySelectorAll('.tile')].slice(0, 2).map((it) => it.title).sort()")
             assert names == ["student-30", "student-7"]
-            assert it.look("Math.max(...[...document.querySelectorAll('.tile')].map((it) => it.getBoundingClientRect().bottom)) <= 800")
+            assert it.look(
+                "Math.max(...[...document.querySelectorAll('.tile')].map((it) => it.getBoundingClientRect().bottom)) <= 800"
+            )
             assert it.look("document.documentElement.scrollWidth <= 1280")
             it.shot("thirty")
             assert it.faults == []

@@ -206,10 +206,10 @@ def test_nginx(kept: Kept) -> None:
     ):
         assert old in text
         text = text.replace(old, new)
-    folders = "".join(
-        f"{it}_temp_path {room}/{it};\n" for it in ("client_body", "proxy", "fastcgi", "uwsgi", "scgi")
+    folders = "".join(f"{it}_temp_path {room}/{it};\n" for it in ("client_body", "proxy", "fastcgi", "uwsgi", "scgi"))
+    whole = (
+        f"daemon off;\npid {room}/nginx.pid;\nerror_log {room}/error.log;\nevents {{}}\nhttp {{\n{folders}{text}}}\n"
     )
-    whole = f"daemon off;\npid {room}/nginx.pid;\nerror_log {room}/error.log;\nevents {{}}\nhttp {{\n{folders}{text}}}\n"
     path = put(f"{room}/nginx.conf", whole)
     nginx = subprocess.Popen(["nginx", "-c", path, "-e", f"{room}/error.log"])
     context = ssl.create_default_context(cafile=cert)

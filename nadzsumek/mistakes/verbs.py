@@ -120,8 +120,6 @@ ALL = {
 OF_BYTES, BYTES_HEAD, WIDTH, EXAMPLE = ("config", "write", "boot", "poke", "peek"), "Byte by byte:", 100, 32
 OF_SCRIPTS = ("config", "write", "boot", "poke", "peek", "collect", "reset", "look")
 SHORTHAND = ("load", "join", "send", "text")
-# Those by which another program may come into a node.
-BY_HAND = ("load", "boot", "poke", "write", "restart", "reset")
 # Those whose last word is a file.
 OF_FILES = tuple(name for name, verb in USERS.items() if verb.kinds[-1:] in ((FILE,), (OWN_FILE,)))
 # Another word for a verb.

@@ -35,7 +35,8 @@ class Rooms(NamedTuple):
 class Kept(NamedTuple):
     """What is kept of a class: the folder of each farm with its users, the rights of the sockets, the rooms, and the machine that
     each student gets (none in a class of an earlier version). Of those who were removed the folder of the farm, and of those who
-    were renamed the names that they had before. `web` are the words of `class web` by which it has pages, none if it has none."""
+    were renamed the names that they had before. `web` are the words of `class web` by which it has pages, none if it has none.
+    """
 
     farms: dict[str, list[str]]
     rights: list[str]

@@ -5,6 +5,7 @@ from __future__ import annotations
 import argparse
 import asyncio
 import ipaddress
+import logging
 import os
 import re
 import resource
@@ -199,6 +200,9 @@ def site_of(it: argparse.Namespace, course: str, place: socket.socket, up: Calla
     """Serves the site at this socket; the status."""
     from .site import Site
 
+    # what strangers send isn't told: they would fill the log
+    for name in ("aiohttp", "asyncio"):
+        logging.getLogger(name).setLevel(logging.CRITICAL + 1)
     url = url_of(it)
     hosts = {it.listen.text(), url.partition("://")[2]}
     if ipaddress.ip_address(it.listen.host).is_loopback:

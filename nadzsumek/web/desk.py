@@ -11,7 +11,7 @@ import time
 from typing import TYPE_CHECKING, Any, NamedTuple
 
 from ..failures import FarmError
-from ..mistakes.verbs import ALL, BY_HAND, OF_FILES, Wrong, help_lines
+from ..mistakes.verbs import ALL, OF_FILES, Wrong, help_lines
 from ..results import Rest
 from ..serving.answers import with_meaning
 from ..serving.orders import lines_of, split, table_of
@@ -20,6 +20,7 @@ from ..serving.records import records_of
 from ..serving.values import as_letters, as_numbers, typed_bytes
 from ..verbs import Question, question
 from .labs import MOST_FILM, Labs
+from .listing import Listing, by_line, listing_of
 from .picture import picture_of
 
 if TYPE_CHECKING:
@@ -43,6 +44,8 @@ MOST_SENT, MOST_SHOWN = 4096, 4096
 MISTAKE = re.compile(r"line (\d+)(?:, column (\d+))?: (.*)")
 # What is said of a node that has another program than the one that is named.
 OTHER_CODE = "has other code than its program"
+# The event of a record by which a node takes another program.
+RESET = re.compile(rb"^0 reset ", re.M)
 # Lines that a page doesn't ask: a file is one of the server's, and the program of the page is run by its button.
 FILES = "the page takes the program that it shows: press Run, Check or Submit"
 
@@ -107,8 +110,10 @@ class Desk:
         self.farm, self.name, self.labs = farm, name, labs
         self.turn, self.running, self.waiting = asyncio.Lock(), asyncio.Lock(), 0
         self.user: AsyncUser | None = None
-        # the program that node 0 of the newest record has, and what the machine was when it was told last
+        # the program that node 0 has, if it has one of a page, and up to where the record is known to say nothing else; and what the
+        # machine did when it was told last
         self.program: Program | None = None
+        self.known: tuple[str, int] | None = None
         self.told: Answer = {}
         self.number, self.changed = 0, asyncio.Condition()
         self.hearing = 0
@@ -175,11 +180,23 @@ class Desk:
             return {"mistakes": wrong.mistakes}
         return {"mistakes": []}
 
+    async def listing(self, program: Program) -> Listing:
+        """The code of a program of occam, and its lines."""
+        ran = await self.labs.known(translation_of(program, "--listing"), program.files())
+        if ran.status != 0:
+            raise Mistaken(ran.err)
+        return listing_of(ran.out)
+
     async def loading(self, program: Program, host: int) -> list[str]:
         """The lines that load a program by a host: its code, or pokes and a jump if it is too long for a boot."""
-        ran = await self.labs.known(translation_of(program), program.files())
-        if ran.status == 0 and ran.out.strip():
-            return [f"boot {host} {ran.out.splitlines()[0]}"]
+        if program.kind == "occ":
+            listing = await self.listing(program)
+            if listing.is_booted():
+                return [f"boot {host} {listing.code.hex()}"]
+        else:
+            ran = await self.labs.known(translation_of(program), program.files())
+            if ran.status == 0 and ran.out.strip():
+                return [f"boot {host} {ran.out.splitlines()[0]}"]
         ran = await self.labs.known(translation_of(program, "--pokes", f"{host}", self.name), program.files())
         if ran.status != 0 or not ran.out.strip():
             raise Mistaken(ran.err or "there is no code")
@@ -201,9 +218,9 @@ class Desk:
         lines = ["restart", *question(f"join {ports.link} {ports.port}").lines, *loading]
         if content:
             lines.append(f"write {ports.host} {content.hex()}")
-        self.program = None
+        self.program, self.known = None, None
         await user.do(Question(lines))
-        self.program = program
+        self.program, self.known = program, self.place()
         return {"came": shown(await self.sent(user, ports))}
 
     async def sent(self, user: AsyncUser, ports: Ports) -> bytes:
@@ -252,9 +269,6 @@ class Desk:
                 raise Wrong(f"{first} is for a terminal: close this page instead")
             lines, wiring = lines_of(self.name, line, user.ports), self.wiring()
             answers: list[list[str]] = await user.do(Question(lines, lambda it: it, strict=False))
-            if first in BY_HAND:
-                # another program, or none, is in node 0 then
-                self.program = None
             told = [one for asked, answer in zip(lines, answers) for it in answer for one in with_meaning(asked, it)]
             return {"lines": told + (joins_told(answers[0][0], wiring) if first == "ports" and wiring else [])}
 
@@ -295,13 +309,40 @@ class Desk:
     async def why(self, user: AsyncUser) -> list[str]:
         """Why the nodes do no more: as the farm says it, and behind that the lines of the program, by the record."""
         lines = [*(await user.why()).lines]
+        self.look_for_others()
+        if self.program is None:
+            return lines
+        if self.known is not None and self.program.kind == "occ":
+            return by_line(lines, await self.listing(self.program))
         record = self.record()
-        if self.program is None or record is None or os.path.getsize(record) > MOST_RECORD:
+        if record is None or os.path.getsize(record) > MOST_RECORD:
             return lines
         words, files = self.with_program(["why", record])
         ran = await self.labs.run(words, files, seconds=WHY_SECONDS, is_slow=True)
         told = ran.out.splitlines()[1:]
-        return told if ran.status == 0 and told and OTHER_CODE not in ran.out else lines
+        if ran.status != 0 or not told or OTHER_CODE in ran.out:
+            return lines
+        self.known = self.place()
+        return told
+
+    def place(self) -> tuple[str, int] | None:
+        """The newest record, and its end."""
+        record = self.record()
+        return None if record is None else (record, os.path.getsize(record))
+
+    def look_for_others(self) -> None:
+        """Forgets the program if another may be in its node: since a restart, or since the node was reset."""
+        if self.known is None:
+            return
+        record, at = self.known
+        with contextlib.suppress(OSError):
+            with open(record, "rb") as it:
+                it.seek(at)
+                more = it.read(MOST_RECORD)
+            if self.record() == record and len(more) < MOST_RECORD and not RESET.search(more):
+                self.known = record, at + more.rfind(b"\n") + 1
+                return
+        self.program, self.known = None, None
 
     async def keep_telling(self) -> None:
         """Keeps what was told up to date, as long as a page hears it."""

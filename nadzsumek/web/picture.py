@@ -18,12 +18,12 @@ NODE = re.compile(r"node (\d+) (.*)")
 PROCESS = re.compile(r"node (\d+) (?:at [0-9a-f]{8} )?(waits|goes on|erred|is ready) in line (\d+)(?: \(\d+\))?: (.*)")
 # What the first line about a node says, by which its state is known.
 STATES = (
-    (r"(?:has halted|halted|erred)|.* fault \d", "fault"),
+    (r"halted by fault|.* fault \d", "fault"),
     (r"waits for a control byte\.", "unused"),
     (r"has ended", "ended"),
     (r"rests", "waits"),
     (r"runs", "runs"),
-    (r"waits", "boots"),
+    (r"waits|takes|answers", "boots"),
 )
 DEADLOCK = "a deadlock"
 Answer = dict[str, Any]

@@ -55,7 +55,8 @@ class Steps:
             "event": engine.here,
             "events": engine.events,
             "processes": [
-                {"node": it.node, "does": it.state, "line": it.spot.line, "at": f"{it.address or 0:08x}"} for it in found
+                {"node": it.node, "does": it.state, "line": it.spot.line, "at": f"{it.address or 0:08x}"}
+                for it in found
             ],
             "variables": self.variables(),
         }
