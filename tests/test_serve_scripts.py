@@ -185,8 +185,9 @@ def test_scripts_are_refused() -> None:
             (lambda: bob.write(0, bytes(5000)), "hostfull"),
             (lambda: bob.send(0, "\n" * 3), "hostfull"),
             (lambda: ann.join(0, 9), "badport"),
-            (lambda: bob.load(0, HELLO), "hostfull"),
-            (lambda: bob.load(0, HELLO + bytes(300)), "hostfull"),
+            (lambda: bob.load(0, HELLO), "notbooting"),
+            (lambda: bob.load(0, HELLO, checked=False), "hostfull"),
+            (lambda: bob.load(0, HELLO + bytes(300), checked=False), "hostfull"),
             (lambda: ann.config(bytes(100)), "journalfull"),
         ]
         for call, word in rows:

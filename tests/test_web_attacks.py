@@ -78,7 +78,7 @@ def test_ten_thousand_connections(pages: Pages) -> None:
     resource.setrlimit(resource.RLIMIT_NOFILE, (most, most))
     held, site = list[socket.socket](), site_of(pages)
     halves = (b"", b"GET / HTTP/1.1\r\nHost: ", b"POST /run HTTP/1.1\r\nContent-Length: 99999\r\n\r\n", b"\x16\x03\x01")
-    with answered(pages, 5):
+    with answered(pages, 10):
         for number in range(10_000):
             try:
                 it = socket.create_connection((HOST, pages.port), timeout=5)

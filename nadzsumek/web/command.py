@@ -31,6 +31,8 @@ LISTEN = "127.0.0.1:8000"
 DEBIAN = "/usr/bin/python3"
 # Connections, machines and programs that are run need so many open files at most.
 MOST_FILES = 8192
+# How many connections are let in before others are served again.
+MOST_AT_ONCE = 128
 # The words that say where the pages are.
 PLACES = ("listen", "address", "cert", "key")
 # The file with the teacher's address, in the folder of the class.
@@ -160,7 +162,9 @@ async def serve(site: Site, it: argparse.Namespace, place: socket.socket, up: Ca
         site.doors.hang(runner.server)
     watching = asyncio.ensure_future(site.watch())
     try:
-        await web.SockSite(runner, place, ssl_context=tls, shutdown_timeout=1, backlog=MOST_WAITING).start()
+        await web.SockSite(runner, place, ssl_context=tls, shutdown_timeout=1, backlog=MOST_AT_ONCE).start()
+        # more may wait than are let in at once
+        place.listen(MOST_WAITING)
         print(f"the pages of {escaped(it.DIR)} are at {url_of(it)}", flush=True)
         up(url_of(it))
         await ended.wait()

@@ -19,7 +19,7 @@ STOPPING = {signal.SIGTERM, signal.SIGINT, signal.SIGHUP}
 # How long the site may take to end, how long is waited after it has ended too often, and how long for the place to listen at.
 END_SECONDS, OFTEN_SECONDS, BIND_SECONDS = 5, 10.0, 3
 # So many connections wait before the socket.
-MOST_WAITING = 1024
+MOST_WAITING = 4096
 
 
 def listening_at(host: str, port: int) -> socket.socket:
