@@ -1,11 +1,15 @@
 """The package for scripts: the operator, machines, words, loads that would be lost, and mistakes of Python's own kinds."""
 
 import asyncio
-from collections.abc import Iterator
+import os
+import shutil
+import subprocess
+import sys
+from collections.abc import Callable, Iterator
 
 import pytest
 from support.serving_trials import Served, plan_of_users
-from support.trials import put
+from support.trials import TOP, put
 
 import nadzsumek
 from nadzsumek import NoProgram, Refused
@@ -105,7 +109,7 @@ def test_mistakes_of_scripts(served: Served) -> None:
     """Each is an error of the kind that Python has for it, and nothing is sent."""
     with nadzsumek.Farm(served.folder).user("ann") as ann:
         before = ann.watch()
-        for call, kind, told in (
+        rows: list[tuple[Callable[[], object], type[Exception], str]] = [
             (lambda: ann.look("0"), TypeError, "a node is a number, not '0'"),
             (lambda: ann.join(0, None), TypeError, "a port is a number"),
             (lambda: ann.load(0, 7), TypeError, "a program is a file"),
@@ -116,7 +120,8 @@ def test_mistakes_of_scripts(served: Served) -> None:
             (lambda: ann.write(0, b""), ValueError, "there are no bytes"),
             (lambda: ann.send_words(0, 1 << 40), ValueError, "a word is"),
             (lambda: ann.look(-1), ValueError, "a node is 0 to"),
-        ):
+        ]
+        for call, kind, told in rows:
             with pytest.raises(kind, match=told):
                 call()
         assert ann.watch().lines == before.lines
@@ -126,3 +131,40 @@ def test_mistakes_of_scripts(served: Served) -> None:
         assert ann.peek(0, 0x80000100) == 0xFFFFFFFF
     with pytest.raises(nadzsumek.NoFarm, match="this connection was closed"):
         ann.rest()
+
+
+# A script far from the repository.
+AWAY = """import sys
+import nadzsumek
+with nadzsumek.Farm(sys.argv[1]).user("bob") as bob:
+    bob.restart()
+    bob.place(sys.argv[2])
+    bob.send_words(0, 1)
+    print(nadzsumek.__file__, bob.collect_words(0, 1))
+"""
+
+
+def test_installed_by_pip(served: Served, program: str, folder: str) -> None:
+    """The package stands by itself, with its types, and finds the commands in the path."""
+    pytest.importorskip("setuptools")
+    source, there = f"{folder}/source", f"{folder}/there"
+    os.mkdir(source)
+    for it in ("pyproject.toml", "VERSION"):
+        shutil.copy(f"{TOP}/{it}", source)
+    shutil.copytree(f"{TOP}/nadzsumek", f"{source}/nadzsumek", ignore=shutil.ignore_patterns("__pycache__"))
+    call = [sys.executable, "-m", "pip", "install", "--quiet", "--no-deps", "--no-build-isolation", "--target", there]
+    done = subprocess.run([*call, source], cwd=folder, capture_output=True, encoding="utf-8", check=False)
+    assert done.returncode == 0, done.stderr
+    for it in ("py.typed", "web/static/editor.js", "serving/pages@.service", "film/page.html"):
+        assert os.path.exists(f"{there}/nadzsumek/{it}")
+    script = put(f"{folder}/away.py", AWAY)
+    env = {**os.environ, "PYTHONPATH": there, "PATH": f"{TOP}:{os.environ['PATH']}"}
+    done = subprocess.run(
+        [sys.executable, script, served.folder, program],
+        env=env,
+        cwd=folder,
+        capture_output=True,
+        encoding="utf-8",
+        check=False,
+    )
+    assert (done.stdout, done.stderr) == (f"{there}/nadzsumek/__init__.py (2,)\n", "")

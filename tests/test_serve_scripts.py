@@ -203,10 +203,10 @@ def test_scripts_are_refused() -> None:
             lambda: ann.send(0, ""),
             lambda: ann.load(0, "none.s"),
             lambda: ann.load(0, b""),
-            lambda: ann.look("0"),
             lambda: ann.ask("look 0\nlook 0"),
         ):
             raised(call, (ValueError))
+        raised(lambda: ann.look("0"), TypeError)
         for folder, name in ((it.folder, "zed"), (f"{it.folder}/none", "ann"), (it.plan, "ann")):
             raised(lambda: Farm(folder).user(name), NoFarm)
         many = [Farm(it.folder).user("cas") for _ in range(17)]

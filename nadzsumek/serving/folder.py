@@ -10,6 +10,7 @@ import os
 import pwd
 import re
 import shlex
+import shutil
 import socket
 import stat
 import struct
@@ -62,7 +63,9 @@ def program(name: str) -> str:
     """The path of a program: that of the variable with its name in capitals (LIVE), or else the command at the top. The lab is run
     by its command in any case, which starts the program at LAB, if that is set, with the front end of occam beside it.
     """
-    return os.path.abspath((given_path(name) if name != "lab" else None) or os.path.join(TOP, name))
+    own = (given_path(name) if name != "lab" else None) or os.path.join(TOP, name)
+    # a package that pip has installed has no commands beside it
+    return os.path.abspath(own if os.path.exists(own) else shutil.which(name) or own)
 
 
 def add_proved(parser: argparse.ArgumentParser) -> None:
@@ -83,6 +86,9 @@ def given_path(name: str) -> str | None:
 def start_says(*words: str, stderr: int | None = None) -> bool:
     """Whether tools/start has status 0."""
     call = [os.path.join(TOP, "tools", "start"), *words]
+    if not os.path.exists(call[0]):
+        # the commands in the path start what they have, and say themselves whether that is proved
+        return words[0] != "--is-built" and all(shutil.which(it) for it in words[-1:])
     null = subprocess.DEVNULL
     return subprocess.run(call, stdin=null, stdout=null, stderr=stderr, check=False).returncode == 0
 
