@@ -1,6 +1,7 @@
 """Pages that come up with their class: `class start --web`, what `status` says, what ends them, what brings them back when they are
 killed, their unit, and Debian's nginx before them with the configuration of packaging/."""
 
+import contextlib
 import http.client
 import json
 import os
@@ -8,13 +9,14 @@ import re
 import shutil
 import signal
 import socket
+import sqlite3
 import ssl
 import subprocess
 import time
 from collections.abc import Callable, Iterator
 
 import pytest
-from support.courses import Course
+from support.courses import Course, child_of
 from support.pages import HOST, free_port
 from support.serving_trials import SECONDS
 from support.trials import TOP, put, text_of
@@ -122,6 +124,35 @@ def test_site_is_killed(kept: Kept) -> None:
     assert kept.site() != site
     until(lambda: f"the pages are at http://{kept.place}" in kept.must("status"))
     assert "the site ended by signal 9 (SIGKILL), and is begun again" in text_of(f"{kept.folder}/web.log")
+
+
+def test_nothing_answered_is_lost(kept: Kept) -> None:
+    """What a page was answered is so after the site, `live` and `serve` were killed, each as soon as it had answered."""
+    kept.start("--web", "--listen", kept.place)
+    headers = {"Cookie": f"nadzsumek={kept.secret('student-1')}", "Origin": f"http://{kept.place}"}
+
+    def asked(path: str, **words: str) -> dict[str, list[str]]:
+        it = http.client.HTTPConnection(HOST, kept.port, timeout=SECONDS)
+        try:
+            it.request("POST", path, json.dumps(words), headers)
+            return dict(json.loads(it.getresponse().read()))
+        finally:
+            it.close()
+
+    def ports() -> str:
+        return asked("/line", line="ports").get("lines", [""])[0]
+
+    for at, kill in enumerate((kept.site, lambda: child_of(kept.lock(1)), lambda: kept.lock(1))):
+        line, told = ("join 0 1", "ports 0:1 1:0") if at % 2 == 0 else ("config 0500", "ports 0:- 1:0")
+        asked("/text", kind="occ", text=f"-- {at}\nSKIP\n")
+        assert asked("/line", line=line)["lines"][0] == "config -"
+        os.kill(kill(), signal.SIGKILL)
+        if at == 2:
+            kept.start()
+        until(lambda: ports() == told)
+        until(lambda: kept.status_of("student-1") == 200)
+        with contextlib.closing(sqlite3.connect(f"{kept.folder}/pages.sqlite")) as base:
+            assert base.execute("SELECT text FROM version ORDER BY number DESC").fetchone()[0] == f"-- {at}\nSKIP\n"
 
 
 def test_keeper_is_killed(kept: Kept) -> None:

@@ -15,11 +15,20 @@ def said(*words: str) -> str:
     return subprocess.run([f"{TOP}/lab", *words], capture_output=True, encoding="utf-8", check=False).stdout
 
 
-def test_code_of_listings(lab: str) -> None:
-    """It is that of `--code`, which is there if a boot takes it."""
+TABLE = """CHAN OF BYTE to:
+PLACE to AT link0.out:
+SEQ
+  to ! 'a'
+  out.string ("<b>", to)
+"""
+
+
+def test_code_of_listings(lab: str, folder: str) -> None:
+    """It is that of `--code`, which is there if a boot takes it, also where words begin at the next multiple of four."""
     files = sorted(glob.glob(f"{TOP}/examples/occam/*.occ"))
     assert len(files) > 20
-    for path in files[::4]:
+    tables = [put(f"{folder}/{count}.occ", TABLE + "  to ! 'a'\n" * count) for count in range(4)]
+    for path in [*files[::4], *tables]:
         listing = listing_of(said("occam", path, "--listing"))
         assert (os.path.basename(path), listing.code.hex() if listing.is_booted() else "") == (
             os.path.basename(path),

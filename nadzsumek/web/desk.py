@@ -108,7 +108,7 @@ class Desk:
 
     def __init__(self, farm: Farm, name: str, labs: Labs) -> None:
         self.farm, self.name, self.labs = farm, name, labs
-        self.turn, self.running, self.waiting = asyncio.Lock(), asyncio.Lock(), 0
+        self.turn, self.running, self.looking, self.waiting = asyncio.Lock(), asyncio.Lock(), asyncio.Lock(), 0
         self.user: AsyncUser | None = None
         # the program that node 0 has, if it has one of a page, and up to where the record is known to say nothing else; and what the
         # machine did when it was told last
@@ -175,29 +175,29 @@ class Desk:
     async def mistakes(self, program: Program) -> Answer:
         """What is wrong with a text; the machine isn't asked."""
         try:
-            await self.loading(program, 0)
+            await self.loading(program, 0, False)
         except Mistaken as wrong:
             return {"mistakes": wrong.mistakes}
         return {"mistakes": []}
 
-    async def listing(self, program: Program) -> Listing:
+    async def listing(self, program: Program, is_run: bool = True) -> Listing:
         """The code of a program of occam, and its lines."""
-        ran = await self.labs.known(translation_of(program, "--listing"), program.files())
+        ran = await self.labs.known(translation_of(program, "--listing"), program.files(), is_run)
         if ran.status != 0:
             raise Mistaken(ran.err)
         return listing_of(ran.out)
 
-    async def loading(self, program: Program, host: int) -> list[str]:
+    async def loading(self, program: Program, host: int, is_run: bool = True) -> list[str]:
         """The lines that load a program by a host: its code, or pokes and a jump if it is too long for a boot."""
         if program.kind == "occ":
-            listing = await self.listing(program)
+            listing = await self.listing(program, is_run)
             if listing.is_booted():
                 return [f"boot {host} {listing.code.hex()}"]
         else:
-            ran = await self.labs.known(translation_of(program), program.files())
+            ran = await self.labs.known(translation_of(program), program.files(), is_run)
             if ran.status == 0 and ran.out.strip():
                 return [f"boot {host} {ran.out.splitlines()[0]}"]
-        ran = await self.labs.known(translation_of(program, "--pokes", f"{host}", self.name), program.files())
+        ran = await self.labs.known(translation_of(program, "--pokes", f"{host}", self.name), program.files(), is_run)
         if ran.status != 0 or not ran.out.strip():
             raise Mistaken(ran.err or "there is no code")
         return [line.removeprefix(f"{self.name} ") for line in ran.out.splitlines()]
@@ -242,7 +242,7 @@ class Desk:
         if record is None:
             return 1, "nothing was done yet"
         words, files = self.with_program(["film", record])
-        ran = await self.labs.run(words, files, MOST_FILM, is_slow=True)
+        ran = await self.labs.run(words, files, MOST_FILM)
         return ran.status, ran.out if ran.status == 0 else ran.err
 
     def with_program(self, words: list[str]) -> tuple[list[str], dict[str, str]]:
@@ -318,7 +318,7 @@ class Desk:
         if record is None or os.path.getsize(record) > MOST_RECORD:
             return lines
         words, files = self.with_program(["why", record])
-        ran = await self.labs.run(words, files, seconds=WHY_SECONDS, is_slow=True)
+        ran = await self.labs.run(words, files, seconds=WHY_SECONDS)
         told = ran.out.splitlines()[1:]
         if ran.status != 0 or not told or OTHER_CODE in ran.out:
             return lines

@@ -18,8 +18,9 @@ from ..occam.asking import SOCKET
 from ..serving.folder import program
 from ..serving.running import end_with
 
-# How many runs there are at once, how many seconds one may take, and how many bytes it may print; of a film more.
-MOST_AT_ONCE, MOST_SLOW, SECONDS, MOST_PRINTED, MOST_FILM = 3, 2, 20, 1 << 20, 24 << 20
+# How many runs there are at once of texts that are to be run, of those that are only looked at, and of records; how many seconds one may
+# take, and how many bytes it may print; of a film more.
+MOST_RUNS, MOST_LOOKS, MOST_RECORDS, SECONDS, MOST_PRINTED, MOST_FILM = 3, 3, 2, 20, 1 << 20, 24 << 20
 # How many answers about texts are kept: who has looked for mistakes while typing runs the text next.
 MOST_KEPT, MOST_KEPT_BYTES = 256, 8 << 20
 # How long it may take to begin.
@@ -46,9 +47,11 @@ class Labs:
         self.room = tempfile.TemporaryDirectory(prefix="nadzsumek-")
         self.path = os.path.join(self.room.name, "lab.sock")
         self.process: subprocess.Popen[bytes] | None = None
-        # what reads records has places of its own, so that no text waits for it
-        self.turn, self.places = asyncio.Lock(), asyncio.Semaphore(MOST_AT_ONCE)
-        self.slow_places = asyncio.Semaphore(MOST_SLOW)
+        self.turn = asyncio.Lock()
+        # texts that are to be run, those that are only looked at, and records have places of their own, so that none waits for the next
+        self.runs, self.looks, self.records = (asyncio.Semaphore(it) for it in (MOST_RUNS, MOST_LOOKS, MOST_RECORDS))
+        # the runs whose answers others wait for too
+        self.going: dict[tuple[object, ...], asyncio.Task[Ran]] = {}
         self.kept, self.size = collections.OrderedDict[tuple[object, ...], Ran](), 0
 
     def close(self) -> None:
@@ -87,11 +90,11 @@ class Labs:
         files: dict[str, str],
         most: int = MOST_PRINTED,
         seconds: int = SECONDS,
-        is_slow: bool = False,
+        places: asyncio.Semaphore | None = None,
     ) -> Ran:
-        """Runs it once. A word that begins with `@` names one of the files. It is slow if it reads a record."""
+        """Runs it once. A word that begins with `@` names one of the files. It reads a record unless it has other places."""
         asked = {"words": words, "files": files, "seconds": seconds, "most": most}
-        async with self.slow_places if is_slow else self.places:
+        async with places or self.records:
             try:
                 await self.begun()
                 reader, writer = await asyncio.open_unix_connection(self.path)
@@ -108,13 +111,17 @@ class Labs:
             return Ran(1, "", why)
         return Ran(told["status"], told["out"], told["err"])
 
-    async def known(self, words: list[str], files: dict[str, str]) -> Ran:
-        """The same of a run whose answer depends on its words and files alone."""
+    async def known(self, words: list[str], files: dict[str, str], is_run: bool) -> Ran:
+        """The same of a run whose answer depends on its words and files alone. Who asks what another waits for waits with that one."""
         key = (*words, *files.items())
         if key in self.kept:
             self.kept.move_to_end(key)
             return self.kept[key]
-        ran = await self.run(words, files)
+        if key not in self.going:
+            places = self.runs if is_run else self.looks
+            task = self.going[key] = asyncio.ensure_future(self.run(words, files, places=places))
+            task.add_done_callback(lambda _: self.going.pop(key, None))
+        ran = await asyncio.shield(self.going[key])
         if ran.err != BUSY and key not in self.kept:
             self.kept[key], self.size = ran, self.size + ran.size()
             while len(self.kept) > MOST_KEPT or self.size > MOST_KEPT_BYTES:

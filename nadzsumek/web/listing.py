@@ -7,7 +7,7 @@ import re
 from typing import NamedTuple
 
 # A row of a listing: an address with bytes, or the remark that a line of the text begins there.
-ROW = re.compile(r"([0-9a-f]{8})  ((?:[0-9a-f]{2} ?)+) ")
+ROW = re.compile(r"([0-9a-f]{8})  ((?:[0-9a-f]{2}(?: |$))+)")
 REMARK = re.compile(r"([0-9a-f]{8}) +-- line (\d+)(?: \(\d+\))?: (.*)")
 # What is said of a node, where a process of it is, and whether it has erred there.
 NODE, PLACE = re.compile(r"node (\d+) "), re.compile(r"(?:process at|It was at) ([0-9a-f]{8})\b")
@@ -47,7 +47,8 @@ def listing_of(told: str) -> Listing:
     code, lines = bytearray(), list[Line]()
     for row in told.splitlines():
         if found := ROW.match(row):
-            code += bytes.fromhex(found[2])
+            # what is left free has no row with bytes
+            code += bytes(max(0, int(found[1], 16) - BEGIN - len(code))) + bytes.fromhex(found[2])
         elif remark := REMARK.fullmatch(row):
             lines.append(Line(int(remark[1], 16), int(remark[2]), remark[3]))
     return Listing(bytes(code), tuple(lines))

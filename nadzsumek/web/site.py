@@ -8,7 +8,7 @@ import json
 import os
 import sqlite3
 import time
-from collections.abc import AsyncIterator, Awaitable, Callable, Coroutine
+from collections.abc import AsyncIterator, Awaitable, Callable, Coroutine, Iterator
 from functools import partial
 from typing import Any
 
@@ -253,14 +253,14 @@ class Site:
 
     async def mistakes(self, desk: Desk, asked: dict[str, Any]) -> dict[str, Any]:
         """What is wrong with a text that is being written."""
-        async with self.turn(desk):
+        async with self.look(desk):
             return await desk.mistakes(program_of(asked))
 
     async def steps(self, desk: Desk, asked: dict[str, Any]) -> dict[str, Any]:
         """A step of the debugger through the newest record."""
         if asked["how"] not in HOWS:
             raise ValueError
-        async with self.turn(desk):
+        async with self.look(desk):
             line = int(asked["line"] or 0)
             return await self.debuggers.ask(desk.name, desk.record(), desk.program, asked["how"], line)
 
@@ -278,12 +278,26 @@ class Site:
     async def turn(self, desk: Desk) -> AsyncIterator[None]:
         """Waits until a program of a student may be run. A student's own programs wait for each other first, so that they hold up
         nobody else's."""
+        with self.waiting(desk):
+            async with desk.running, self.runs:
+                yield
+
+    @contextlib.asynccontextmanager
+    async def look(self, desk: Desk) -> AsyncIterator[None]:
+        """Waits until a text or a record of a student may be looked at, which holds up no program."""
+        with self.waiting(desk):
+            async with desk.looking:
+                yield
+
+    @staticmethod
+    @contextlib.contextmanager
+    def waiting(desk: Desk) -> Iterator[None]:
+        """Counts what a student asks, and refuses what is too much."""
         if desk.waiting >= MOST_WAITING:
             raise web.HTTPTooManyRequests(text=f"{MOST_WAITING} programs of yours wait already\n")
         desk.waiting += 1
         try:
-            async with desk.running, self.runs:
-                yield
+            yield
         finally:
             desk.waiting -= 1
 
@@ -331,7 +345,7 @@ class Site:
 
     async def film(self, request: web.Request) -> web.Response:
         desk = self.looked_at(request)
-        async with self.turn(desk):
+        async with self.look(desk):
             status, text = await desk.film()
         return page(text, policy=FILM_POLICY) if status == 0 else plain(f"{text}\n", 409)
 
