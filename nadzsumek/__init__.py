@@ -17,14 +17,30 @@ from typing import Any
 
 # Where each name is. A module is imported when a name of it is first used: the compiler of occam needs none of them.
 _MODULES = {
-    **dict.fromkeys(("Farm", "serve"), "farm"),
+    **dict.fromkeys(("AsyncUser", "Farm", "Operator", "User", "serve"), "farm"),
     "load_ipython_extension": "notebook",
-    **dict.fromkeys(("FarmError", "NoFarm", "NotAnswered", "Refused"), "failures"),
+    **dict.fromkeys(("FarmError", "NoFarm", "NoProgram", "NotAnswered", "Refused"), "failures"),
     **dict.fromkeys(
-        ("Checked", "Exercise", "HandedIn", "Loaded", "Look", "Note", "Rest", "State", "Tested", "Why"), "results"
+        (
+            "Checked",
+            "Exercise",
+            "HandedIn",
+            "Loaded",
+            "Look",
+            "Machine",
+            "Note",
+            "Rest",
+            "State",
+            "Tested",
+            "Used",
+            "Watched",
+            "Why",
+        ),
+        "results",
     ),
 }
 __all__ = [
+    "AsyncUser",
     "Checked",
     "Exercise",
     "Farm",
@@ -32,13 +48,19 @@ __all__ = [
     "HandedIn",
     "Loaded",
     "Look",
+    "Machine",
     "NoFarm",
+    "NoProgram",
     "NotAnswered",
     "Note",
+    "Operator",
     "Refused",
     "Rest",
     "State",
     "Tested",
+    "Used",
+    "User",
+    "Watched",
     "Why",
     "load_ipython_extension",
     "serve",

@@ -40,3 +40,7 @@ class NotAnswered(FarmError):
 
 class NoFarm(FarmError):
     """There is no farm, no such user, no right to speak as him, or the connection has ended."""
+
+
+class NoProgram(FileNotFoundError, ValueError):
+    """There is no file of a program where a script says."""

@@ -16,12 +16,12 @@ from typing import TYPE_CHECKING, Any
 from nadzsumek.serving import folder as folders
 from nadzsumek.serving.connections import opened
 from nadzsumek.serving.kept import class_in, place_of
-from nadzsumek.serving.ports import ports_of
+from nadzsumek.serving.ports import ports_of, wiring_of
 
 from .dialogue import AT_ONCE, Dialogue
 from .failures import NoFarm, NotAnswered
-from .results import Note, check
-from .verbs import Collecting, Program, Verbs, loaded, question
+from .results import Machine, Note, Used, check, machine_of, used_of
+from .verbs import Collecting, Program, Verbs, loaded, number, question, refuse_lost, words_of_bytes
 
 if TYPE_CHECKING:
     from nadzsumek.serving.ports import Ports
@@ -60,10 +60,18 @@ class Farm:
         except folders.Refused as refused:
             raise NoFarm(f"{refused}") from None
 
+    def user_ports(self, name: str) -> Ports | None:
+        """The ports of this user; none if the plan can't be read."""
+        return ports_of(*self.place(name))
+
     def user(self, name: str, noted: Noted | None = None, seconds: float = SECONDS) -> User:
         """A connection as this user, to be used in `with`. `noted` is called with each note that comes, and `seconds` is how long
         an answer is waited for."""
         return User(*self.place(name), noted, seconds)
+
+    def operator(self, noted: Noted | None = None, seconds: float = SECONDS) -> Operator:
+        """A connection as the operator, to be used in `with`. Each farm of a class has one of its own."""
+        return Operator(*self.place(folders.OPERATOR), noted, seconds)
 
     def async_user(self, name: str, noted: Noted | None = None, seconds: float = SECONDS) -> AsyncUser:
         """The same for asyncio, to be used in `async with`."""
@@ -119,9 +127,31 @@ class Speaking(Verbs):
     def __init__(self, folder: str, name: str, noted: Noted | None, seconds: float) -> None:
         self.folder, self.name, self.seconds, self.dialogue = folder, name, seconds, Dialogue(noted)
 
+    def __repr__(self) -> str:
+        return f"<{type(self).__name__} {self.name} of {self.folder}>"
+
     @property
     def ports(self) -> Ports | None:
         return ports_of(self.folder, self.name)
+
+    @property
+    def machine(self) -> Machine:
+        """The user's machine: `machine.nodes[1].links[0]` is the port of link 0 of node 1, and `machine.hosts[0].port` that of host 0."""
+        wiring = wiring_of(self.folder, self.name)
+        if wiring is None:
+            raise NoFarm(f"the plan in {self.folder} can't be read, or has no user {self.name}")
+        return machine_of(wiring)
+
+    def way(self, node: int, host: int | None) -> tuple[int, int, int]:
+        """The ports of a node's first wired link and of a host, and the host's number: the user's first unless one is said."""
+        machine = self.machine
+        if number(node, "a node") >= len(machine.nodes):
+            raise ValueError(f"there is no node {node}: there are {len(machine.nodes)}, from 0 on")
+        own = min(machine.hosts) if host is None else number(host, "a host")
+        if own not in machine.hosts:
+            raise ValueError(f"there is no host {own}: the user has {', '.join(map(str, machine.hosts))}")
+        link = next(port for port in machine.nodes[node].links if port is not None)
+        return link, machine.hosts[own].port, own
 
     def late(self, pending: Pending, seconds: float) -> NotAnswered:
         """What is raised if no answer has come in this time."""
@@ -133,7 +163,7 @@ class User(Speaking):
 
     def __init__(self, folder: str, name: str, noted: Noted | None, seconds: float) -> None:
         super().__init__(folder, name, noted, seconds)
-        self.stream, self.turn = connected(folder, name), threading.RLock()
+        self.stream, self.turn, self.has_closed = connected(folder, name), threading.RLock(), False
 
     def __enter__(self) -> User:
         return self
@@ -143,6 +173,7 @@ class User(Speaking):
 
     def close(self) -> None:
         """Ends the connection."""
+        self.has_closed = True
         self.stream.close()
 
     @property
@@ -160,6 +191,8 @@ class User(Speaking):
                 self.dialogue.feed(piece)
 
     def do(self, asked: Question) -> Any:
+        if self.has_closed:
+            raise NoFarm("this connection was closed")
         with self.turn:
             answers = [it for piece in pieces(asked.lines) for it in self.exchange(piece, asked)]
         return asked.result(answers)
@@ -204,19 +237,53 @@ class User(Speaking):
             if time.monotonic() > end and not pending.is_whole:
                 raise self.late(pending, seconds)
 
-    def load(self, host: int, program: Program) -> Any:
-        """Boots a program: the file of its text, an example's name, or bytes of code. A `Loaded`."""
-        return self.do(loaded(host, program))
+    def load(self, host: int, program: Program, checked: bool = True) -> Any:
+        """Boots a program: the file of its text, an example's name, or bytes of code. A `Loaded`. It is refused if nothing would be
+        booted, as when the node runs already, unless it isn't to be checked."""
+        asked = loaded(host, program)
+        if checked:
+            refuse_lost(self.folder, self.name, host, program)
+        return self.do(asked)
+
+    def place(self, program: Program, node: int = 0, host: int | None = None) -> Any:
+        """Joins a node with a host, the user's first unless one is said, and boots a program there. A `Loaded`."""
+        link, port, own = self.way(node, host)
+        self.join(link, port)
+        return self.load(own, program)
+
+    def collect_words(self, host: int, count: int, seconds: float | None = None) -> tuple[int, ...]:
+        """So many words of 32 bits that came to a host, with a sign; fewer if the time is over, 10 seconds unless it is said."""
+        return words_of_bytes(self.collect(host, 4 * number(count, "a count"), seconds))
 
     def collect(self, host: int, count: int | None = None, seconds: float | None = None) -> bytes:
         """The bytes that came to a host; with a count or a time all that come until there are as many, or the time is over, 10
         seconds if only a count is given."""
         with Collecting(count, seconds) as it:
             while True:
-                it.held += self.do(question(f"collect {host:d}"))
+                it.held += self.do(question(f"collect {number(host, 'a host')}"))
                 if it.is_over():
                     return bytes(it.held)
                 time.sleep(it.next_pause())
+
+
+class Operator(User):
+    """The operator's connection."""
+
+    def users(self) -> tuple[Used, ...]:
+        """What each user has done."""
+        return tuple(used_of(it) for it in self.ask("users"))
+
+    def tell(self, text: str) -> None:
+        """Tells all users something, as a note."""
+        with self.turn:
+            if "\n" in text:
+                raise ValueError("a line has no line feed")
+            self.send_all(f"!tell {text}\n".encode())
+
+    def restart_user(self, name: str) -> None:
+        """Makes the machine of a user as it was opened, for all who share it."""
+        answer = self.ask(f"restart {name}")[0]
+        check(f"restart {name}", answer)
 
 
 class AsyncUser(Speaking):
@@ -293,16 +360,30 @@ class AsyncUser(Speaking):
         if not pending.is_whole:
             raise self.dialogue.ended()
 
-    async def load(self, host: int, program: Program) -> Any:
-        """Boots a program: the file of its text, an example's name, or bytes of code. A `Loaded`."""
-        return await self.do(await asyncio.to_thread(loaded, host, program))
+    async def load(self, host: int, program: Program, checked: bool = True) -> Any:
+        """Boots a program: the file of its text, an example's name, or bytes of code. A `Loaded`. It is refused if nothing would be
+        booted, as when the node runs already, unless it isn't to be checked."""
+        asked = await asyncio.to_thread(loaded, host, program)
+        if checked:
+            await asyncio.to_thread(refuse_lost, self.folder, self.name, host, program)
+        return await self.do(asked)
+
+    async def place(self, program: Program, node: int = 0, host: int | None = None) -> Any:
+        """Joins a node with a host, the user's first unless one is said, and boots a program there. A `Loaded`."""
+        link, port, own = self.way(node, host)
+        await self.join(link, port)
+        return await self.load(own, program)
+
+    async def collect_words(self, host: int, count: int, seconds: float | None = None) -> tuple[int, ...]:
+        """So many words of 32 bits that came to a host, with a sign; fewer if the time is over, 10 seconds unless it is said."""
+        return words_of_bytes(await self.collect(host, 4 * number(count, "a count"), seconds))
 
     async def collect(self, host: int, count: int | None = None, seconds: float | None = None) -> bytes:
         """The bytes that came to a host; with a count or a time all that come until there are as many, or the time is over, 10
         seconds if only a count is given."""
         with Collecting(count, seconds) as it:
             while True:
-                it.held += await self.do(question(f"collect {host:d}"))
+                it.held += await self.do(question(f"collect {number(host, 'a host')}"))
                 if it.is_over():
                     return bytes(it.held)
                 await asyncio.sleep(it.next_pause())

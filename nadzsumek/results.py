@@ -10,6 +10,7 @@ from typing import Any
 
 from nadzsumek.course import telling
 from nadzsumek.serving.answers import bytes_taken, meaning, refusal, shortfall
+from nadzsumek.serving.ports import Wiring, drivers_in
 
 from .failures import NotAnswered, Refused
 
@@ -54,6 +55,65 @@ class Why:
 
     def __str__(self) -> str:
         return "\n".join(self.lines)
+
+
+@dataclasses.dataclass(frozen=True)
+class Watched:
+    """What a machine does: a number that changes with it, how many lines its user has sent, the events that are recorded and how many
+    may be, the bytes of the rooms that are used and that there are, and of each port the port that drives it, none if none does.
+    """
+
+    number: int
+    lines: int
+    events: int
+    limit: int
+    rest: Rest
+    is_replayed: bool
+    used: int | None
+    room: int | None
+    records_used: int | None
+    records_room: int | None
+    drivers: dict[int, int | None] = dataclasses.field(hash=False)
+
+
+@dataclasses.dataclass(frozen=True)
+class Used:
+    """What the operator is told of a user: how many lines were answered, the events that are recorded and how many may be, and the words
+    that say what the machine does."""
+
+    name: str
+    lines: int
+    events: int
+    limit: int
+    now: tuple[str, ...]
+
+    @property
+    def rest(self) -> Rest:
+        return Rest.FULL if "rests" in self.now else Rest.BUSY if "busy" in self.now else Rest.QUIET
+
+
+@dataclasses.dataclass(frozen=True)
+class HostPlace:
+    """A host of a machine, and its port."""
+
+    number: int
+    port: int
+
+
+@dataclasses.dataclass(frozen=True)
+class NodePlace:
+    """A node of a machine, and the ports of its four links, none for one that isn't wired."""
+
+    number: int
+    links: tuple[int | None, ...]
+
+
+@dataclasses.dataclass(frozen=True)
+class Machine:
+    """A user's machine: its nodes, and the user's own hosts by their numbers."""
+
+    nodes: tuple[NodePlace, ...]
+    hosts: dict[int, HostPlace] = dataclasses.field(hash=False)
 
 
 @dataclasses.dataclass(frozen=True)
@@ -203,6 +263,33 @@ OF_COURSE: dict[str, Callable[[dict[str, Any]], object]] = {
 }
 
 
+def watched_of(words: list[str]) -> Watched:
+    """What `watch` tells: its number, what the operator is told of the user, and the ports."""
+    at = words.index("ports")
+    number, lines, events, limit, *more = words[1:at]
+    rooms: list[int | None] = [int(it) for it in more if it.isdigit()]
+    used, room, records_used, records_room = rooms if len(rooms) == 4 else [None, None, None, None]
+    rest = Rest.FULL if "rests" in more else Rest.BUSY if "busy" in more else Rest.QUIET
+    counts = int(number), int(lines), int(events), int(limit)
+    drivers = drivers_in(" ".join(words[at:])) or {}
+    return Watched(*counts, rest, "replaying" in more, used, room, records_used, records_room, drivers)
+
+
+def used_of(answer: str) -> Used:
+    """A line of the answer to the operator's `users`."""
+    _, name, lines, events, limit, *now = answer.split(" ")
+    return Used(name, int(lines), int(events), int(limit), tuple(it for it in now if not it.isdigit()))
+
+
+def machine_of(wiring: Wiring) -> Machine:
+    """A machine as its plan has it."""
+    nodes = (
+        NodePlace(number, tuple(None if port < 0 else port for port in links))
+        for number, links in enumerate(wiring.nodes)
+    )
+    return Machine((*nodes,), {number: HostPlace(number, port) for number, port in wiring.hosts.items()})
+
+
 def config_of(words: list[str]) -> bytes:
     return bytes.fromhex("".join(it for it in words if it != "-"))
 
@@ -219,6 +306,7 @@ OF_WORDS: dict[str, Callable[[list[str]], object]] = {
     "look": lambda words: look_of(words[2:]),
     "rest": lambda words: Rest(words[1]),
     "restart": lambda words: None,
+    "watch": lambda words: watched_of(words),
 }
 
 

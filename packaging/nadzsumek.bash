@@ -21,7 +21,7 @@ _nadzsumek_options() {
     connect) echo '-h --help --version -c --json --unchecked' ;;
     class) echo '-h --help --version --students --nodes --hosts --memory --limit --room --record-room --line-steps --restart-steps --mode --group --proved' ;;
     class\ start) echo '--room --record-room --line-steps --restart-steps --proved' ;;
-    class\ serve) echo '--sync' ;;
+    class\ serve) echo '--sync --no-web' ;;
     class\ add) echo '--students' ;;
     class\ change) echo '--nodes --hosts' ;;
     class\ finish) echo '--remove' ;;

@@ -560,7 +560,13 @@ def test_units_are_right(place: Place) -> None:
             assert (name, part, bool(said), is_exposed and fits) == (name, part, is_mistake, False)
         lines = unit.partition("[Service]")[2].splitlines()
         common.append(
-            [it for it in lines if not re.search("%[if]|MemoryMax|/home|ROOMS|^# What each domain may take", it)]
+            [
+                it
+                for it in lines
+                if not re.search(
+                    "%[if]|MemoryMax|/home|ROOMS|^# What each domain may take|^# The pages of the class", it
+                )
+            ]
         )
         for part in (" --sync ", "\nMemoryMax=", "\nOOMPolicy=continue\n"):
             assert (part, part in unit) == (part, True)

@@ -154,7 +154,11 @@ def manual_is_true(root: Fresh) -> None:
             ["man", "--manpath", f"{root.path}/usr/share/man", name], env={**os.environ, "MANWIDTH": "200"}
         )
         assert f"{name} - " in texts[name]
-    for name, call in (("farm@", "/usr/bin/serve --sync"), ("class@", "/usr/bin/class serve")):
+    for name, call in (
+        ("farm@", "/usr/bin/serve --sync"),
+        ("class@", "/usr/bin/class serve"),
+        ("pages@", "/usr/bin/class web"),
+    ):
         texts[name] = text_of(f"{root.path}/{UNITS}/{name}.service")
         assert f"ExecStart={call}" in texts[name] and "PREFIX" not in texts[name]
     pages = glob.glob(f"{root.path}/{DOC}/**/*.md", recursive=True)

@@ -121,7 +121,8 @@ def class_of_two(root: Root) -> None:
         True,
     )
     assert (
-        root.shell("grep -c '^The user.s guide: /usr/share/doc/nadzsumek/guides/USER.html$' one/sheets/ada.txt") == "1\n"
+        root.shell("grep -c '^The user.s guide: /usr/share/doc/nadzsumek/guides/USER.html$' one/sheets/ada.txt")
+        == "1\n"
     )
 
 
@@ -147,7 +148,11 @@ def pages_are_there(root: Root) -> None:
             == f"complete -o filenames -F _nadzsumek {name}\n"
         )
     units = f"{root.path}/usr/lib/systemd/system"
-    for name, call in (("farm@", "/usr/bin/serve --sync"), ("class@", "/usr/bin/class serve")):
+    for name, call in (
+        ("farm@", "/usr/bin/serve --sync"),
+        ("class@", "/usr/bin/class serve"),
+        ("pages@", "/usr/bin/class web"),
+    ):
         text = contents(f"{units}/{name}.service").decode()
         assert (f"ExecStart={call}" in text, "@PREFIX@" in text) == (True, False)
     # by root, whose Python puts folders of its own beside the package

@@ -185,8 +185,9 @@ def test_scripts_are_refused() -> None:
             (lambda: bob.write(0, bytes(5000)), "hostfull"),
             (lambda: bob.send(0, "\n" * 3), "hostfull"),
             (lambda: ann.join(0, 9), "badport"),
-            (lambda: bob.load(0, HELLO), "hostfull"),
-            (lambda: bob.load(0, HELLO + bytes(300)), "hostfull"),
+            (lambda: bob.load(0, HELLO), "notbooting"),
+            (lambda: bob.load(0, HELLO, checked=False), "hostfull"),
+            (lambda: bob.load(0, HELLO + bytes(300), checked=False), "hostfull"),
             (lambda: ann.config(bytes(100)), "journalfull"),
         ]
         for call, word in rows:
@@ -202,10 +203,10 @@ def test_scripts_are_refused() -> None:
             lambda: ann.send(0, ""),
             lambda: ann.load(0, "none.s"),
             lambda: ann.load(0, b""),
-            lambda: ann.look("0"),
             lambda: ann.ask("look 0\nlook 0"),
         ):
             raised(call, (ValueError))
+        raised(lambda: ann.look("0"), TypeError)
         for folder, name in ((it.folder, "zed"), (f"{it.folder}/none", "ann"), (it.plan, "ann")):
             raised(lambda: Farm(folder).user(name), NoFarm)
         many = [Farm(it.folder).user("cas") for _ in range(17)]

@@ -1,6 +1,5 @@
-"""Pages of a class: programs that are run from them, who comes in and who doesn't, what bounds requests, and a lesson in a real browser
-(long; Debian's chromium). It wants Debian's python3-aiohttp, which ./test installs. The folder that the variable PICTURES names gets
-pictures of the pages."""
+"""Pages of a class: programs that are run from them, who comes in and who doesn't, and what bounds requests. It wants Debian's
+python3-aiohttp, which ./test installs. What a browser shows is tried in test_web_browser.py."""
 
 import concurrent.futures
 import http.client
@@ -16,7 +15,6 @@ import time
 from collections.abc import Iterator
 
 import pytest
-from support import browser
 from support.pages import HOST, Pages, free_port
 from support.serving_trials import SECONDS
 from support.trials import NEXT, TOP, contents, put, text_of
@@ -30,11 +28,6 @@ INT x:
 SEQ
   c ! 1
   c ? x
-"""
-# Sends whatever its page must not take for its own words.
-MARKUP = """CHAN OF BYTE to:
-PLACE to AT link0.out:
-out.string ("<img src=x onerror=alert(1)>", to)
 """
 LETTERS_AND_MORE = {"count": 3, "letters": '"IBM"', "numbers": None, "hex": "49 42 4d"}
 
@@ -63,14 +56,27 @@ def test_mistakes_change_nothing(pages: Pages) -> None:
     told = pages.run("student-1", "INT x:\nSEQ\n  x := y\n")
     assert [(it["line"], it["column"]) for it in told["mistakes"]] == [(3, 8)]
     assert pages.post("student-1", "/line", line="send 0 Z").told()["lines"] == ["write 0 1"]
-    assert pages.post("student-1", "/line", line="collect 0").told()["lines"] == ["collect 0 5b"]
+    assert pages.post("student-1", "/line", line="collect 0").told()["lines"] == ['collect 0 5b  "["']
+
+
+def test_other_programs_have_no_lines(pages: Pages) -> None:
+    """Of a program that came by hand no lines are said, and of the page's again when it is run again."""
+    told = pages.run("student-2", NEXT, "A")
+    assert told["why"][-1].endswith(" waits in line 7: from ? letter")
+    for line in ("reset 0", "boot 0 4021f5"):
+        pages.post("student-2", "/line", line=line)
+    assert not any(" in line " in it for it in pages.get("student-2", "/state").told()["why"])
+    assert pages.run("student-2", NEXT, "A")["why"][-1].endswith(" waits in line 7: from ? letter")
+    pages.post("student-2", "/line", line="restart")
 
 
 def test_lines(pages: Pages) -> None:
     """Any line of a terminal is answered, but those that read files of the server."""
-    assert pages.post("student-2", "/line", line="ports").told()["lines"] == ["ports 0:- 1:-"]
+    told = pages.post("student-2", "/line", line="ports").told()["lines"]
+    assert told == ["ports 0:- 1:-", "  (nothing is joined: join joins two ports)"]
+    assert pages.post("student-2", "/line", line="help look").told()["lines"][0].startswith("look 0 ")
     assert pages.post("student-2", "/line", line="look 0").told()["lines"] == ["look 0 booting overruns 0 0 0 0"]
-    for line in ("load 0 /etc/passwd", "load /etc/passwd", "boot 0", "nonsense", "!stop", "help", "look 0\nlook 0", ""):
+    for line in ("load 0 /etc/passwd", "load /etc/passwd", "boot 0", "nonsense", "!stop", "quit", "look 0\nlook 0", ""):
         told = pages.post("student-2", "/line", line=line).told()
         assert ([*told], "root:" in told["error"]) == (["error"], False), line
     assert pages.post("student-2", "/line", line="look 0").told()["lines"] == ["look 0 booting overruns 0 0 0 0"]
@@ -126,8 +132,12 @@ def test_others_are_kept_out(pages: Pages) -> None:
     for path in ("/wall", "/text?of=student-1"):
         it = pages.get("student-2", path)
         assert (path, it.status, "student-1" in it.text) == (path, 403 if path == "/wall" else 200, False)
-    for path in ("/live", "/film"):
-        assert pages.get("teacher", path).status == 403
+    for path in ("/live", "/film", "/state", "/versions", "/film?of=nobody", "/state?of=../x"):
+        assert (path, pages.get("teacher", path).status) == (path, 403)
+    for path in ("/submissions", "/marks.csv"):
+        assert (path, pages.get("student-2", path).status) == (path, 403)
+    for path in ("/state?of=student-1", "/versions?of=student-1"):
+        assert pages.get("student-2", path).told() == pages.get("student-2", path.partition("?")[0]).told()
     assert pages.post("teacher", "/line", line="ports").status == 403
     cookie = {"Cookie": f"nadzsumek={pages.secret('student-2')}"}
     body = json.dumps({"line": "restart"}).encode()
@@ -177,7 +187,7 @@ def test_odd_requests(pages: Pages) -> None:
 
 def test_headers(pages: Pages) -> None:
     """Nothing is loaded from elsewhere, and no answer is kept or shown in another site."""
-    for path in ("/", "/files/page.css", "/files/student.js", "/text", "/nowhere"):
+    for path in ("/", "/files/page.css", "/files/student.js", "/files/editor.js", "/guide/USER", "/text", "/nowhere"):
         it = pages.get("student-1", path)
         policy = it.headers["Content-Security-Policy"]
         assert (path, "default-src 'none'" in policy, "unsafe" in policy) == (path, True, False)
@@ -242,6 +252,7 @@ def test_tls(pages: Pages) -> None:
         *names,
     ]
     subprocess.run(call, check=True, capture_output=True)
+    assert pages.end() == 0
     web = pages.served("--cert", cert, "--key", key, "--address", f"https://localhost:{port}", place=f"{HOST}:{port}")
     try:
         context = ssl.create_default_context(cafile=cert)
@@ -257,13 +268,14 @@ def test_tls(pages: Pages) -> None:
         clear.close()
     finally:
         assert pages.end(web) == 0
+        pages.web = pages.served()
 
 
 def test_words(pages: Pages) -> None:
     """What the command refuses."""
     wrong = (
         (["--listen", "0.0.0.0:1"], "at 0.0.0.0 secrets would go over the network as they are"),
-        (["--listen", pages.place], f"the site can't listen at {pages.place}"),
+        (["--listen", f"{HOST}:{free_port()}"], "are served already, by process"),
         (
             ["--cert", f"{pages.folder}/class.json", "--key", f"{pages.folder}/class.json"],
             "are no certificate and its key",
@@ -324,53 +336,6 @@ def test_thirty_do_the_first_lesson() -> None:
         told = pages.get("teacher", "/wall").told()
         assert {it["name"] for it in told} == {*names}
         assert all("a deadlock" in it["why"] for it in told)
-
-
-def picture(it: browser.Browser, name: str) -> None:
-    if folder := os.environ.get("PICTURES"):
-        os.makedirs(folder, exist_ok=True)
-        it.picture(f"{folder}/{name}.png")
-
-
-@pytest.mark.browser
-@pytest.mark.skipif(not browser.is_there(), reason="there is no chromium: apt-get install chromium")
-def test_lesson_in_a_browser(pages: Pages) -> None:
-    """From the sheet's address to a program that answers, a mistake with its line, a deadlock by line, and the film; markup that a
-    program sends is shown as it is. Then the teacher's page."""
-    with browser.Browser(f"http://{pages.place}", f"ws://{pages.place}") as it:
-        it.size(1280, 800)
-        it.visit(pages.address("student-1"), "document.title.startsWith('student-1')")
-        assert it.look("location.pathname") == "/"
-        assert it.look("document.cookie") == ""
-
-        def run(text: str, send: str, until: str) -> None:
-            it.look(f"document.getElementById('text').value = {json.dumps(text)}")
-            it.look(f"document.getElementById('send').value = {json.dumps(send)}")
-            it.look("document.getElementById('run').click()")
-            it.wait_for(f"!document.getElementById('run').disabled && ({until})")
-
-        run(NEXT, "HAL", "document.getElementById('came').textContent.includes('IBM')")
-        assert "waits in line 7" in it.look("document.getElementById('why').textContent")
-        it.wait_for("document.getElementById('state').textContent.includes('it rests')")
-        picture(it, "student")
-        run("SEQ\n  x := 1\n", "", "document.getElementById('mistakes').textContent.includes('line 2, column 3')")
-        assert it.look("document.querySelector('#numbers .wrong').textContent.trim()") == "2"
-        run(DEADLOCK, "", "document.getElementById('why').textContent.includes('line 4')")
-        picture(it, "deadlock")
-        run(MARKUP, "", "document.getElementById('came').textContent.includes('<img src=x')")
-        assert it.look("document.querySelectorAll('#came img').length") == 0
-        it.look("document.getElementById('film').click()")
-        it.wait_for("document.getElementById('shown').src.includes('/film')")
-        time.sleep(1)
-        picture(it, "film")
-        it.size(390, 800)
-        assert it.look("document.documentElement.scrollWidth <= 390")
-        it.size(1280, 800)
-        it.visit(pages.address("teacher"), "document.querySelectorAll('.tile').length == 3")
-        it.look("document.querySelector('.tile').click()")
-        it.wait_for("document.getElementById('text').textContent.length > 5")
-        picture(it, "teacher")
-        assert it.faults == []
 
 
 ADDS = """CHAN OF INT from, to:

@@ -142,6 +142,18 @@ class Book:
         ).fetchone()
         return None if row is None else Version(*row)
 
+    def versions(self, name: str) -> list[tuple[int, float]]:
+        """The numbers of a student's versions, the newest first, and when each was kept."""
+        rows = self.base.execute("SELECT number, at FROM version WHERE name = ? ORDER BY number DESC", [name])
+        return [(int(number), float(at)) for number, at in rows]
+
+    def version(self, name: str, number: int) -> Version | None:
+        """The version of a student's text that has this number; none if it isn't that student's."""
+        row = self.base.execute(
+            "SELECT at, kind, text FROM version WHERE name = ? AND number = ?", [name, number]
+        ).fetchone()
+        return None if row is None else Version(*row)
+
     def submit(self, it: Submission) -> Submission:
         """Keeps what was handed in, as long as its student is in the class, and gives it with its number. All of it stays, also what
         was handed in before."""

@@ -159,17 +159,22 @@ def submitted(given: list[str]) -> int:
     return 0
 
 
-def marks(given: list[str]) -> int:
-    """Prints the points of each student: those of what was handed in last for each exercise."""
-    it = words_of("marks", "Shows each student's points: those of what was handed in last.", given)
-    course, kept = os.path.abspath(it.DIR), own_class(it.DIR)
+def mark_rows(course: str) -> list[list[str]]:
+    """The points of each student below a head: those of what was handed in last for each exercise."""
+    kept = own_class(course)
     last = {(one.name, one.exercise): one for one in handed_in(course)}
     there = sorted({*exercises_of(course), *(exercise for _, exercise in last)})
-    users = [name for names in kept.farms.values() for name in names]
     rows = [["student", "name", *there, "points"]]
-    for user in users:
+    for user in (name for names in kept.farms.values() for name in names):
         own = [last.get((user, exercise)) for exercise in there]
         points = [f"{one.points}" if one else "-" for one in own]
         rows.append([user, person_of(course, user), *points, f"{sum(one.points for one in own if one)}"])
-    show(rows, it.csv)
+    return rows
+
+
+def marks(given: list[str]) -> int:
+    """Prints the points of each student: those of what was handed in last for each exercise."""
+    it = words_of("marks", "Shows each student's points: those of what was handed in last.", given)
+    own_class(it.DIR)
+    show(mark_rows(os.path.abspath(it.DIR)), it.csv)
     return 0

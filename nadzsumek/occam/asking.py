@@ -8,7 +8,8 @@ usage: asking.py PROGRAM WORD..
 
 This process becomes the program, so that signals, terminal and status are its own. A child process answers, and ends when the
 program does: the program holds the one end of a pipe, at whose other end the child waits. If the variable NADZSUMEK_OCCAM_BOUNDED is
-set, each text is compiled within bounds of time and memory (`bounded.py`).
+set, each text is compiled within bounds of time and memory (`bounded.py`). If NADZSUMEK_LAB_SOCKET is set, it runs the lab for others,
+whatever its words are (`answering.py`).
 """
 
 from __future__ import annotations
@@ -23,7 +24,7 @@ import tempfile
 import threading
 from typing import NoReturn
 
-FOLDER, BOUNDED = "NADZSUMEK_OCCAM", "NADZSUMEK_OCCAM_BOUNDED"
+FOLDER, BOUNDED, SOCKET = "NADZSUMEK_OCCAM", "NADZSUMEK_OCCAM_BOUNDED", "NADZSUMEK_LAB_SOCKET"
 ASKED, ANSWERED = "asked", "answered"
 # What the thread that compiles may need: nothing of it is taken before it is used.
 STACK = 64 << 20
@@ -116,6 +117,10 @@ def run_lab(program: str, words: list[str]) -> NoReturn:
 def start(program: str, words: list[str]) -> NoReturn:
     """Runs the lab with these words. The film that it prints becomes a page, unless the words ask for JSON. Programs are run and
     checked here, by plans and scripts that are made for them, and editors are served."""
+    if SOCKET in os.environ:
+        from nadzsumek.occam.answering import answer_many
+
+        answer_many(os.environ.pop(SOCKET), functools.partial(start, program))
     if words == ["dap"]:
         from nadzsumek.debugging.adapter import main as serve_editor
 

@@ -57,6 +57,7 @@ REFUSING = {
     "config": ("badport", "badcommand", "journalfull"),
     "boot": (*REFUSALS, "refused"),
     "restart": ("operator",),
+    "watch": ("many", "args"),
 }
 # The verbs by which shorthand lines are answered.
 ANSWERING = {"join": "config", "send": "write", "text": "collect"}

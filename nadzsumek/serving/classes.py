@@ -40,15 +40,18 @@ from .plans import LIMIT, Machine, farms_of, plan_of, students_of
 from .replacement import replace
 from .rooms import Needed, add_bounds
 from .sheets import count, sheet, sheet_path, ways_of
-from .status import table, told_by
+from .sites import StartSite, StopSite, address_of, keeper_of
+from .status import OFF, table, told_by
 from .supervising import LEAVE_OFF, Supervisor, tell
-from .upkeep import INTERRUPTED, LAST_SECONDS, PAUSE, Stop, do_all
+from .upkeep import INTERRUPTED, LAST_SECONDS, PAUSE, Stop, Work, do_all
 from .verifying import verify
 from .versions import add_version
 from .wall import wall
 
 # How many farms are asked at once.
 MOST_ASKED = 32
+# The words of pages, as for `class web`, and what each wants behind it.
+OF_PAGES = {"listen": "ADDRESS:PORT", "address": "URL", "cert": "FILE", "key": "FILE"}
 # What most orders want behind them.
 FOLDER_ALONE = "the folder of the class behind it, and nothing else"
 
@@ -114,22 +117,54 @@ def start(folder: str) -> int:
     with hold(folder, fcntl.LOCK_SH, brings_back=False):
         forget_away(folder)
         kept = own_class(folder)
-        return do_all([starting(kept, farm, folder, names) for farm, names in kept.farms.items()])
+        works: list[Work] = [starting(kept, farm, folder, names) for farm, names in kept.farms.items()]
+        # pages ask the farms, and wait for those that aren't up yet
+        return do_all(works + ([StartSite(os.path.abspath(folder), kept.web)] if kept.web is not None else []))
 
 
-def start_with(words: list[str]) -> int:
-    """Starts the farms with other rooms than they had, or with proved programs alone, which is kept from then on."""
+def words_of_start(words: list[str]) -> argparse.Namespace:
     parser = argparse.ArgumentParser(
         prog="class start",
-        usage="class start [--room SIZE] [--record-room SIZE] [--line-steps SIZE] [--restart-steps SIZE] [--proved] DIR",
-        description="Starts the farms of a class with other bounds, or with proved programs alone, also from then on.",
+        usage="class start [--room SIZE] [--record-room SIZE] [--line-steps SIZE] [--restart-steps SIZE] [--proved]\n"
+        "                   [--web [--listen ADDRESS:PORT] [--address URL] [--cert FILE --key FILE]|--no-web] DIR",
+        description="Starts the farms of a class with other bounds, with proved programs alone, or with pages, also from then on.",
     )
     add_bounds(parser)
     add_proved(parser)
+    parser.add_argument("--web", action="store_true", help="pages come up with the farms, also from then on")
+    parser.add_argument("--no-web", action="store_true", help="no pages come up with them any more")
+    for name, what in OF_PAGES.items():
+        parser.add_argument(f"--{name}", metavar=what, help="as for class web")
     parser.add_argument("DIR", help="the folder of the class")
     it = parser.parse_args(words)
+    if any(getattr(it, name) for name in OF_PAGES) and not it.web:
+        parser.error("--listen, --address, --cert and --key are words of --web")
+    if it.web and it.no_web:
+        parser.error("--web and --no-web aren't wanted together")
+    return it
+
+
+def pages_of(it: argparse.Namespace, kept: Kept) -> list[str] | None:
+    """The words of the pages that a class has from now on. Files are named so that they are found from anywhere."""
+    if it.no_web or not it.web:
+        return None if it.no_web else kept.web
+    given = {name: value for name in OF_PAGES if (value := getattr(it, name))}
+    if not given:
+        return kept.web or []
+    given |= {name: os.path.abspath(given[name]) for name in ("cert", "key") if name in given}
+    words = [word for name, value in given.items() for word in (f"--{name}", value)]
+    from ..web.command import words_of
+
+    # what is wrong is said before anything is kept
+    words_of([*words, it.DIR])
+    return words
+
+
+def start_with(words: list[str]) -> int:
+    """Starts the farms with other rooms than they had, with proved programs alone, or with pages, which is kept from then on."""
+    it = words_of_start(words)
     kept = own_class(it.DIR)
-    rooms = kept.rooms.changed(it)
+    rooms, web = kept.rooms.changed(it), pages_of(it, kept)
     rights = kept.rights + ([PROVED] if it.proved and PROVED not in kept.rights else [])
     if (rooms, rights) != (kept.rooms, kept.rights):
         for farm in kept.farms:
@@ -137,9 +172,13 @@ def start_with(words: list[str]) -> int:
                 raise Refused(
                     f"{os.path.basename(farm)} is up, as it was started: class stop {shlex.quote(it.DIR)} first"
                 )
+    if web != kept.web and (number := keeper_of(it.DIR)) is not None:
+        raise Refused(f"the pages are up (process {number}): class stop {shlex.quote(it.DIR)} first")
+    if (rooms, rights, web) != (kept.rooms, kept.rights, kept.web):
         with hold(it.DIR, fcntl.LOCK_EX):
-            text = own_class(it.DIR)._replace(rooms=rooms, rights=rights).text()
+            text = own_class(it.DIR)._replace(rooms=rooms, rights=rights, web=web).text()
             replace(os.path.abspath(it.DIR), {os.path.join(os.path.abspath(it.DIR), CLASS): text.encode()})
+    if rooms != kept.rooms:
         say_rooms(it.DIR, sum(len(names) for names in kept.farms.values()), rooms)
     return start(it.DIR)
 
@@ -161,11 +200,12 @@ def serve(*words: str) -> int:
     """Becomes the `serve` of one farm, with what is kept of its class, or has those of all its farms as children, as a unit of
     systemd wants it."""
     *more, farm = words if words else ("",)
-    if not farm or [it for it in more if it != "--sync"]:
+    if not farm or [it for it in more if it not in ("--sync", "--no-web")]:
         raise Refused(
             "serve wants the folder of a farm behind it or that of a class, or --sync and the folder. Try: class serve "
             "course/farm-1"
         )
+    has_pages, more = "--no-web" not in more, [it for it in more if it != "--no-web"]
     farm = os.path.abspath(farm)
     is_whole = os.path.isfile(os.path.join(farm, CLASS))
     course = farm if is_whole else os.path.dirname(farm)
@@ -173,7 +213,7 @@ def serve(*words: str) -> int:
     mend_soon(course)
     kept = own_class(course)
     if is_whole:
-        return Supervisor(farm, more).run()
+        return Supervisor(farm, more, has_pages).run()
     if farm not in kept.farms:
         raise Refused(
             f"{farm} is no farm of its class: there are {', '.join(os.path.basename(it) for it in kept.farms)}"
@@ -188,19 +228,31 @@ def stop(folder: str) -> int:
     with hold(folder, fcntl.LOCK_SH, mends=False):
         forget_away(folder)
         tell(folder, LEAVE_OFF)
-        return do_all([Stop(farm, folder) for farm in own_class(folder).farms])
+        kept = own_class(folder)
+        # pages that class web serves by itself stay: they say that the farms are away
+        works: list[Work] = [StopSite(os.path.abspath(folder))] if kept.web is not None and keeper_of(folder) else []
+        return do_all(works + [Stop(farm, folder) for farm in kept.farms])
 
 
 def status(folder: str) -> int:
     """Prints a row for each student, and below them how much memory each farm has that answers, and whether it is proved."""
-    farms = own_class(folder).farms
+    kept = own_class(folder)
+    farms = kept.farms
     # a farm that doesn't answer delays no other's rows
     with ThreadPoolExecutor(MOST_ASKED) as pool:
         told = [*pool.map(told_by, farms.keys(), farms.values())]
     print("\n".join(table([row for rows, _ in told for row in rows])))
-    remarks = [escaped(it) for _, lines in told for it in lines]
+    remarks = [escaped(it) for it in [*(it for _, lines in told for it in lines), *of_pages(folder, kept)]]
     print("".join(f"{it}\n" for it in (["", *remarks] if remarks else [])), end="")
     return 0
+
+
+def of_pages(folder: str, kept: Kept) -> list[str]:
+    """What is said of the pages below the rows: where they are, or that they are off though the class has some."""
+    if (number := keeper_of(folder)) is None:
+        return [] if kept.web is None else [f"the pages are {OFF}"]
+    address = address_of(folder)
+    return [f"the pages are at {address}" if address else f"the pages don't answer yet (process {number})"]
 
 
 def check_record(folder: str, name: str, file: str) -> int:
@@ -269,9 +321,11 @@ ABOUT_ORDERS = """\
 a class that is there:
   class start DIR             starts the farms that aren't up, and waits until they answer. With --room, --record-room,
                               --line-steps or --restart-steps they have other bounds from then on, and with --proved they
-                              run no program that isn't proved; stop them first
+                              run no program that isn't proved; stop them first. With --web pages come up with them, by the
+                              words of class web, and with --no-web no more
   class serve DIR/FARM        is the serve of one farm, until it is stopped, as a unit of systemd wants it; also with --sync
-  class serve DIR             is those of all farms, until it is stopped, also of farms that are added later
+  class serve DIR             is those of all farms, until it is stopped, also of farms that are added later, and keeps the
+                              pages up, but with --no-web
   class stop DIR              stops the farms; they go on where they were when they are started again
   class status DIR            shows what each student has done
   class add DIR NAME ..       adds students: each gets a place in a farm that has one, or in one more farm. Others keep what
@@ -306,8 +360,9 @@ def words_of(given: list[str]) -> argparse.Namespace:
         usage="""\
 class --students NAMES.txt --nodes N [--hosts H] [--memory M] [--limit L] [--room SIZE] [--record-room SIZE]
              [--line-steps SIZE] [--restart-steps SIZE] [--mode M] [--group G] [--proved] DIR
-       class start [--room SIZE] [--record-room SIZE] [--line-steps SIZE] [--restart-steps SIZE] [--proved] DIR
-       class serve [--sync] DIR|DIR/FARM
+       class start [--room SIZE] [--record-room SIZE] [--line-steps SIZE] [--restart-steps SIZE] [--proved]
+             [--web [--listen ADDRESS:PORT] [--address URL] [--cert FILE --key FILE]|--no-web] DIR
+       class serve [--sync] [--no-web] DIR|DIR/FARM
        class stop|status DIR
        class add [--students NAMES.txt] DIR [NAME ..]
        class remove DIR NAME ..

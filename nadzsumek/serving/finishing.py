@@ -27,15 +27,16 @@ from .records import PIECE, records_of
 from .replacement import Replacement, discard
 from .rooms import shown
 from .sheets import count
+from .sites import LOG as PAGES_LOG, StopSite, keeper_of
 from .supervising import Awaited, tell
-from .upkeep import SAY_SECONDS, Start, Stop, all_done, begin_surely, must_all, say
+from .upkeep import SAY_SECONDS, Start, Stop, Work, all_done, begin_surely, must_all, say
 
 if TYPE_CHECKING:
     from .changing import Change
 
 ENDING = ".tar.xz"
 # What `class`, `serve` and `live` make for themselves, and that is nobody's work.
-OWN = re.compile(r"^((class\.)?lock|pace)$|\.sock$")
+OWN = re.compile(r"^(((class|web)\.)?lock|pace|teacher\.page\.txt|pages\.sqlite-journal)$|\.sock$")
 # How much an archive is squeezed, in pieces of so many bytes, of which so many are on their way. Records of thirty students are
 # squeezed in minutes.
 PRESET, SQUEEZED, MOST_PIECES = 0, 1 << 22, min(os.cpu_count() or 1, 8)
@@ -65,7 +66,7 @@ def paths_of(change: Change) -> Iterator[str]:
     """What the archive has, folders before what is in them."""
     users, course = users_of(change), change.course
     yield course
-    yield from (it for name in (CLASS, BOOK) if os.path.exists(it := os.path.join(course, name)))
+    yield from (it for name in (CLASS, BOOK, PAGES_LOG) if os.path.exists(it := os.path.join(course, name)))
     for folder in ("sheets", REMOVED, EXERCISES):
         yield from below(os.path.join(course, folder))
     for farm in dict.fromkeys(farm for _, farm in users):
@@ -247,7 +248,9 @@ def stopped(change: Change, is_last: bool) -> Iterator[tuple[list[Item], list[St
         build("class", "live")
     for farm in up:
         outs(farm)
-    ended = [Stop(farm, change.course) for farm in up]
+    ended: list[Work] = [Stop(farm, change.course) for farm in up]
+    # pages go on while the farms begin again
+    ended += [StopSite(change.course)] if is_last and keeper_of(change.course) is not None else []
     starts = [change.start_of(farm, change.kept.farms[farm], Awaited) for farm in up]
     try:
         with undisturbed(), away(change.course, [] if is_last else up):

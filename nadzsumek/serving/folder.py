@@ -10,6 +10,7 @@ import os
 import pwd
 import re
 import shlex
+import shutil
 import socket
 import stat
 import struct
@@ -62,7 +63,9 @@ def program(name: str) -> str:
     """The path of a program: that of the variable with its name in capitals (LIVE), or else the command at the top. The lab is run
     by its command in any case, which starts the program at LAB, if that is set, with the front end of occam beside it.
     """
-    return os.path.abspath((given_path(name) if name != "lab" else None) or os.path.join(TOP, name))
+    own = (given_path(name) if name != "lab" else None) or os.path.join(TOP, name)
+    # a package that pip has installed has no commands beside it
+    return os.path.abspath(own if os.path.exists(own) else shutil.which(name) or own)
 
 
 def add_proved(parser: argparse.ArgumentParser) -> None:
@@ -83,6 +86,9 @@ def given_path(name: str) -> str | None:
 def start_says(*words: str, stderr: int | None = None) -> bool:
     """Whether tools/start has status 0."""
     call = [os.path.join(TOP, "tools", "start"), *words]
+    if not os.path.exists(call[0]):
+        # the commands in the path start what they have, and say themselves whether that is proved
+        return words[0] != "--is-built" and all(shutil.which(it) for it in words[-1:])
     null = subprocess.DEVNULL
     return subprocess.run(call, stdin=null, stdout=null, stderr=stderr, check=False).returncode == 0
 
@@ -170,13 +176,18 @@ def group_name(number: int) -> grp.struct_group:
 def holder(folder: str) -> int | None:
     """The number of the process that serves the folder at present; none if there is none. To look at the lock takes no
     lock."""
+    return holder_of(os.path.join(folder, "lock"))
+
+
+def holder_of(path: str) -> int | None:
+    """The number of the process that has locked a file; none if there is none."""
     try:
-        file = os.open(os.path.join(folder, "lock"), os.O_RDONLY | os.O_NOFOLLOW)
+        file = os.open(path, os.O_RDONLY | os.O_NOFOLLOW)
     except FileNotFoundError:
         return None
     except PermissionError:
         raise Refused(
-            f"this account ({account_name(os.geteuid())}) may not see who has {folder}: "
+            f"this account ({account_name(os.geteuid())}) may not see who has {os.path.dirname(path)}: "
             f"ask the account that started the farm there"
         ) from None
     try:

@@ -35,7 +35,8 @@ class Rooms(NamedTuple):
 class Kept(NamedTuple):
     """What is kept of a class: the folder of each farm with its users, the rights of the sockets, the rooms, and the machine that
     each student gets (none in a class of an earlier version). Of those who were removed the folder of the farm, and of those who
-    were renamed the names that they had before."""
+    were renamed the names that they had before. `web` are the words of `class web` by which it has pages, none if it has none.
+    """
 
     farms: dict[str, list[str]]
     rights: list[str]
@@ -43,6 +44,7 @@ class Kept(NamedTuple):
     machine: Machine | None = None
     removed: dict[str, str] = {}
     earlier: dict[str, list[str]] = {}
+    web: list[str] | None = None
 
     def text(self) -> str:
         """The text of the file."""
@@ -53,6 +55,7 @@ class Kept(NamedTuple):
             {"removed": {name: os.path.basename(farm) for name, farm in self.removed.items()}} if self.removed else {}
         )
         kept |= {"earlier": self.earlier} if self.earlier else {}
+        kept |= {"web": self.web} if self.web is not None else {}
         return json.dumps(kept, indent=1) + "\n"
 
     def farm_of(self, user: str) -> str | None:
@@ -64,8 +67,8 @@ def read(folder: str, kept: dict[str, Any]) -> Kept:
     """What the file says. A value of a wrong kind is an error of one kind or another."""
     farms, rights, rooms = kept["farms"], kept["rights"], Rooms(**kept.get("rooms", {}))
     machine = Machine(**kept["machine"]) if "machine" in kept else None
-    removed, earlier = kept.get("removed", {}), kept.get("earlier", {})
-    texts = [*farms, *rights, *(name for names in farms.values() for name in names)]
+    removed, earlier, web = kept.get("removed", {}), kept.get("earlier", {}), kept.get("web")
+    texts = [*farms, *rights, *(web or ()), *(name for names in farms.values() for name in names)]
     texts += [it for pair in removed.items() for it in pair] + [
         it for name, names in earlier.items() for it in [name, *names]
     ]
@@ -73,6 +76,7 @@ def read(folder: str, kept: dict[str, Any]) -> Kept:
         None in [bytes_of(it) for it in rooms]
         or not all(isinstance(it, str) for it in texts)
         or not all(isinstance(it, int) for it in machine or ())
+        or not isinstance(web, (list, type(None)))
     ):
         raise ValueError
     top = os.path.abspath(folder)
@@ -83,6 +87,7 @@ def read(folder: str, kept: dict[str, Any]) -> Kept:
         machine,
         {name: os.path.join(top, farm) for name, farm in removed.items()},
         earlier,
+        web,
     )
 
 

@@ -44,6 +44,7 @@ from .rooms import RECORD_ROOM, ROOM, Needed, add_bounds, bounds_in, words_of_bo
 from .rooms import shown as shown_size
 from .speakers import UNANSWERED, Asked, Client, Operator, Speaker, shown, without_tag
 from .versions import add_version
+from .watching import Watches
 
 if TYPE_CHECKING:
     from .running import Live
@@ -89,6 +90,7 @@ class Server:
         self.accepting: list[asyncio.Task[None]] = []
         self.wirings: dict[str, Wiring] = {}
         self.course = Course(self.folder.path)
+        self.watches = Watches(self)
 
     def current_live(self) -> running.Live:
         """The run of `live` that is there once the farm is up."""
@@ -179,6 +181,8 @@ class Server:
             return
         if (news := speaker.news(text)) is not None:
             self.tell_all(f"the operator says: {escaped(news.decode(errors='surrogateescape'))}")
+            return
+        if self.watches.answers(speaker, client, tag, text):
             return
         asked = await speaker.enter(text, client, tag)
         await self.goes.wait()
@@ -301,6 +305,7 @@ class Server:
                     self.reports.say(f"serve: live said {line!r}")
                     continue
                 asked = speaker.answered(line)
+                self.watches.changed(speaker)
                 text = speaker.told(line) + b"\n"
                 if asked is not None and asked.hear:
                     speaker, text, asked = asked.hear(line)
@@ -453,7 +458,7 @@ async def run(words: argparse.Namespace, reports: Reports) -> int:
     for one in (signal.SIGTERM, signal.SIGINT, signal.SIGHUP):
         if signal.getsignal(one) != signal.SIG_IGN:
             loop.add_signal_handler(one, server.stop)
-    watching = [asyncio.ensure_future(it) for it in (server.watch(), server.look_for_folder())]
+    watching = [asyncio.ensure_future(it) for it in (server.watch(), server.look_for_folder(), server.watches.look())]
     try:
         server.is_proved = await asyncio.to_thread(is_proved, "live")
         server.prepare()

@@ -5,6 +5,7 @@ from __future__ import annotations
 import asyncio
 import re
 import socket
+import weakref
 from collections.abc import Awaitable, Callable
 from typing import TYPE_CHECKING
 
@@ -27,6 +28,8 @@ BYTES_OF_ONE = 1 << 12
 # `why` may do many Steps before it is answered, so it counts as so many lines: the operator's restart waits for few of them.
 WHY, OF_WHY = b"why", 50
 MOST_CLIENTS = 16
+# Of these lines so many may be of connections with one name, so that one who stands between people and a farm leaves room to others.
+MOST_OF_NAMED = 100
 # So many bytes of a speaker's half lines are read at once, and then so many in a second.
 HALF_AT_ONCE, HALF_A_SECOND = 2 << 20, 1 << 20
 # Each restart begins a file of its own, however little is in it: a speaker's are sent so many at once, and then so many in a second.
@@ -63,6 +66,7 @@ class Asked:
     ) -> None:
         self.text, self.client, self.size, self.tag, self.hear = text, client, size, tag, hear
         self.place = 0
+        self.share: asyncio.Semaphore | None = None
 
 
 def without_tag(line: bytes) -> tuple[bytes, bytes]:
@@ -82,6 +86,8 @@ class Speaker:
         self.held = Held()
         self.asked: dict[int, Asked] = {}
         self.room, self.turn = asyncio.Semaphore(most), asyncio.Lock()
+        # of these, those that connections of one name may have
+        self.shares = weakref.WeakValueDictionary[str, asyncio.Semaphore]()
         self.half_lines = Pace(HALF_AT_ONCE, HALF_A_SECOND)
         self.restarts = Pace(RESTARTS_AT_ONCE, RESTARTS_A_SECOND)
 
@@ -95,13 +101,18 @@ class Speaker:
 
     async def enter(self, text: bytes, client: Client, tag: bytes) -> Asked:
         """Waits until one more line may be on its way. Clients of one speaker take turns."""
-        size = min(OF_WHY if text.startswith(WHY) else 1 + len(text) // BYTES_OF_ONE, self.most)
+        most = min(self.most, MOST_OF_NAMED) if client.called else self.most
+        asked = Asked(text, client, min(OF_WHY if text.startswith(WHY) else 1 + len(text) // BYTES_OF_ONE, most), tag)
+        if client.called:
+            asked.share = self.shares.setdefault(client.called, asyncio.Semaphore(most))
+            for _ in range(asked.size):
+                await asked.share.acquire()
         async with self.turn:
-            for _ in range(size):
+            for _ in range(asked.size):
                 await self.room.acquire()
             if text.removesuffix(b"\r") == RESTART:
                 await asyncio.sleep(self.restarts.pause(1))
-        return Asked(text, client, size, tag)
+        return asked
 
     def stops(self, _: bytes) -> bool:
         """Whether a line stops the farm."""
@@ -147,6 +158,8 @@ class Speaker:
         """The line is no longer on its way."""
         for _ in range(asked.size):
             self.room.release()
+            if asked.share:
+                asked.share.release()
 
     def tell(self, text: bytes) -> None:
         for client in [*self.clients]:
@@ -267,6 +280,8 @@ class Client:
         self.speaker, self.writer = speaker, writer
         self.lines = Lines(reader, MOST_LINE, speaker.half_lines)
         self.waits, self.has_ended, self.has_tags = 0, False, False
+        # whether it hears what others are answered though it has sent a tag, and who is behind it, if it has said that
+        self.hears_all, self.called = False, ""
         self.backlog = Backlog(writer, speaker.held)
 
     def tell(self, text: bytes) -> None:
@@ -287,12 +302,13 @@ class Client:
 
     def share(self, text: bytes, asked: Asked | None) -> bytes:
         """What this client gets of a line of an answer: all of a note; what answers its own line, behind the line's tag; and
-        what answers others, unless that line had a tag or this client has sent one."""
+        what answers others, unless that line had a tag or this client has sent one and doesn't hear all."""
         if asked is None:
             return text
         if asked.client is self:
             return asked.tag + text
-        return b"" if asked.client is None or asked.tag or self.has_tags else text
+        hears = self.hears_all or not self.has_tags
+        return b"" if asked.client is None or asked.tag or not hears else text
 
     async def read_no_more(self) -> None:
         """Lets the client send nothing more. What is there is taken: else it couldn't read what it is told."""

@@ -11,6 +11,7 @@ import subprocess
 import sys
 import time
 
+from . import sites
 from .escapes import escaped
 from .folder import Refused, holder, is_locked, own_plan, program, was_stopped
 from .holders import serve_of
@@ -27,6 +28,8 @@ AGAIN_SECONDS = 60
 # How long a farm may be off that the supervisor was asked to start.
 OFF_SECONDS = 30
 PAUSE = 0.05
+# How often it is looked whether the pages are up.
+PAGES_SECONDS = 2.0
 
 
 def is_class(number: int) -> bool:
@@ -83,8 +86,11 @@ class AwaitedChange(Awaited):
 class Supervisor:
     """The farms of a class, each with its `serve`."""
 
-    def __init__(self, course: str, more: list[str]) -> None:
-        self.course, self.more = os.path.abspath(course), more
+    def __init__(self, course: str, more: list[str], has_pages: bool = True) -> None:
+        self.course, self.more, self.has_pages = os.path.abspath(course), more, has_pages
+        # the process that keeps the pages up, if it was begun here, and when it is to be begun
+        self.pages: subprocess.Popen[bytes] | None = None
+        self.pages_due = 0.0
         self.children: dict[str, subprocess.Popen[bytes]] = {}
         self.plans: dict[str, tuple[int, int]] = {}
         self.begun: dict[str, float] = {}
@@ -213,14 +219,28 @@ class Supervisor:
         if LEAVE_OFF in asked:
             self.leave_off()
         self.due = {farm: when for farm, when in self.due.items() if farm in self.kept.farms}
+        self.keep_pages(ALL in asked)
         for farm in self.kept.farms:
             is_due = self.due.get(farm, float("inf")) <= time.monotonic()
             if ALL in asked or is_due or (CHANGED in asked and self.is_changed(farm)):
                 self.try_start(farm)
 
+    def keep_pages(self, is_asked: bool) -> None:
+        """Begins what keeps the pages up if it has ended, unless it was stopped and isn't asked for."""
+        if self.pages is not None and self.pages.poll() is not None:
+            self.pages, self.pages_due = None, time.monotonic() + PAGES_SECONDS
+        if self.kept.web is None or not self.has_pages or self.pages is not None:
+            return
+        with contextlib.suppress(OSError, Refused):
+            is_due = is_asked or (time.monotonic() > self.pages_due and not sites.was_stopped(self.course))
+            if is_due and sites.keeper_of(self.course) is None:
+                self.pages = sites.begun(self.course, self.kept.web)
+
     def wait(self) -> None:
         """Waits until a signal comes or a farm is due."""
         pause = max(0, min(self.due.values()) - time.monotonic()) if self.due else None
+        if self.kept.web is not None and self.has_pages:
+            pause = min(PAGES_SECONDS, PAGES_SECONDS if pause is None else pause)
         if self.wakes in select.select([self.wakes, *self.others.values()], [], [], pause)[0]:
             self.asked |= {signal.Signals(it) for it in os.read(self.wakes, 4096)}
 
@@ -241,6 +261,8 @@ class Supervisor:
             with contextlib.suppress(ProcessLookupError):
                 signal.pidfd_send_signal(process_of_others, signal.SIGTERM)
         # serve ends by itself within a minute
+        if self.has_pages and sites.keeper_of(self.course) is not None:
+            sites.StopSite(self.course).done()
         statuses = [process.wait() for process in self.children.values()]
         for process_of_others in self.others.values():
             select.select([process_of_others], [], [])

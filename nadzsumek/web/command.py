@@ -5,11 +5,15 @@ from __future__ import annotations
 import argparse
 import asyncio
 import ipaddress
+import logging
 import os
 import re
+import resource
 import signal
+import socket
 import ssl
 import sys
+from collections.abc import Callable
 from typing import TYPE_CHECKING, NamedTuple
 
 from ..course.book import TEACHER, Book
@@ -17,6 +21,7 @@ from ..occam.asking import BOUNDED
 from ..serving.escapes import escaped
 from ..serving.folder import OWN_FILE, Refused, build, put_whole
 from ..serving.kept import own_class, student_in
+from .keeping import MOST_WAITING, Keeper, listening_at
 
 if TYPE_CHECKING:
     from .site import Site
@@ -24,6 +29,12 @@ if TYPE_CHECKING:
 LISTEN = "127.0.0.1:8000"
 # Where Debian's Python is, which finds Debian's packages.
 DEBIAN = "/usr/bin/python3"
+# Connections, machines and programs that are run need so many open files at most.
+MOST_FILES = 8192
+# How many connections are let in before others are served again.
+MOST_AT_ONCE = 128
+# The words that say where the pages are.
+PLACES = ("listen", "address", "cert", "key")
 # The file with the teacher's address, in the folder of the class.
 TEACHER_SHEET = "teacher.page.txt"
 SHEET = """{who}: this is the address of your page:
@@ -137,19 +148,25 @@ def new_addresses(course: str, book: Book, url: str) -> list[str]:
     return [new_address(course, book, name, url) for name in sorted(names - book.holders())]
 
 
-async def serve(site: Site, it: argparse.Namespace, tls: ssl.SSLContext | None) -> None:
-    """Serves the site until a signal ends it."""
+async def serve(site: Site, it: argparse.Namespace, place: socket.socket, up: Callable[[str], None]) -> None:
+    """Serves the site until a signal ends it. `up` is told its address."""
     from aiohttp import web
 
+    tls = tls_of(it)
     ended, loop = asyncio.Event(), asyncio.get_running_loop()
     for one in (signal.SIGINT, signal.SIGTERM, signal.SIGHUP):
         loop.add_signal_handler(one, ended.set)
     runner = web.AppRunner(site.application(), access_log=None, keepalive_timeout=30, handle_signals=False)
     await runner.setup()
-    watching = asyncio.ensure_future(site.watch(runner))
+    if runner.server is not None:
+        site.doors.hang(runner.server)
+    watching = asyncio.ensure_future(site.watch())
     try:
-        await web.TCPSite(runner, it.listen.host, it.listen.port, ssl_context=tls, shutdown_timeout=1).start()
+        await web.SockSite(runner, place, ssl_context=tls, shutdown_timeout=1, backlog=MOST_AT_ONCE).start()
+        # more may wait than are let in at once
+        place.listen(MOST_WAITING)
         print(f"the pages of {escaped(it.DIR)} are at {url_of(it)}", flush=True)
+        up(url_of(it))
         await ended.wait()
     finally:
         watching.cancel()
@@ -160,11 +177,12 @@ def pages(given: list[str]) -> int:
     """Serves the pages of a class, or makes a new address."""
     it = words_of(given)
     check_aiohttp(given)
-    from .site import Site
-
-    course = os.path.abspath(it.DIR)
-    kept = own_class(it.DIR)
-    tls, url = tls_of(it), url_of(it)
+    course, kept = os.path.abspath(it.DIR), own_class(it.DIR)
+    if kept.web and not any(getattr(it, name) != getattr(words_of([it.DIR]), name) for name in PLACES):
+        # as class start --web has kept them
+        it = words_of([*kept.web, *given])
+    url = url_of(it)
+    tls_of(it)
     if it.new is not None or it.new_teacher:
         name = TEACHER if it.new is None else student_in(kept.farms, it.new, it.DIR)[1]
         book = Book(course)
@@ -175,6 +193,21 @@ def pages(given: list[str]) -> int:
     # a student's text is compiled within bounds
     os.environ[BOUNDED] = "yes"
     os.umask(0o077)
+    most = resource.getrlimit(resource.RLIMIT_NOFILE)[1]
+    resource.setrlimit(resource.RLIMIT_NOFILE, (most if most in range(MOST_FILES) else MOST_FILES, most))
+    keeper = Keeper(course)
+    with listening_at(*it.listen) as place:
+        return keeper.keep(lambda: site_of(it, course, place, keeper.is_up))
+
+
+def site_of(it: argparse.Namespace, course: str, place: socket.socket, up: Callable[[str], None]) -> int:
+    """Serves the site at this socket; the status."""
+    from .site import Site
+
+    # what strangers send isn't told: they would fill the log
+    for name in ("aiohttp", "asyncio"):
+        logging.getLogger(name).setLevel(logging.CRITICAL + 1)
+    url = url_of(it)
     hosts = {it.listen.text(), url.partition("://")[2]}
     if ipaddress.ip_address(it.listen.host).is_loopback:
         hosts.add(f"localhost:{it.listen.port}")
@@ -182,8 +215,11 @@ def pages(given: list[str]) -> int:
     made = new_addresses(course, site.book, url)
     if made:
         print(f"new addresses: {escaped(made[0])}" + (f", and {len(made) - 1} more" if made[1:] else ""), flush=True)
-    try:
-        asyncio.run(serve(site, it, tls))
-    except OSError as error:
-        raise Refused(f"the site can't listen at {it.listen.text()}: {error.strerror}") from None
+
+    def came() -> None:
+        with Book(course) as book:
+            new_addresses(course, book, url)
+
+    site.came = came
+    asyncio.run(serve(site, it, place, up))
     return 0

@@ -6,36 +6,42 @@ import asyncio
 import contextlib
 import json
 import os
+import sqlite3
 import time
-from collections.abc import AsyncIterator, Awaitable, Callable
+from collections.abc import AsyncIterator, Awaitable, Callable, Coroutine, Iterator
 from functools import partial
 from typing import Any
-from weakref import WeakSet
 
-from aiohttp import WSMsgType, web
+from aiohttp import web
 
 from ..course.book import MOST_TEXT, TEACHER, Book
 from ..course.judging import Judge
 from ..course.telling import REFUSED
 from ..farm import Farm
 from ..mistakes.verbs import Wrong
+from ..serving.folder import CLASS, Refused
 from ..serving.programs import ASSEMBLY, OCCAM
-from ..serving.tiles import tiles_of
 from ..serving.wall import Nodes
-from .desk import Desk
+from .desk import Desk, Program
+from .doors import Doors
+from .guide import guide
+from .labs import Labs
+from .stepping import Debuggers
+from .teacher import Teacher
 
 STATIC = os.path.join(os.path.dirname(os.path.abspath(__file__)), "static")
-KINDS = {"page.css": "text/css", "student.js": "text/javascript", "teacher.js": "text/javascript"}
+ENDINGS = {"css": "text/css", "js": "text/javascript"}
+FILES = ("page.css", "student.js", "editor.js", "picture.js", "shared.js", "teacher.js")
 COOKIE, COOKIE_SECONDS = "nadzsumek", 180 * 24 * 3600
 # What a request may hold, and how long its bytes are waited for.
 MOST_BODY, BODY_SECONDS = 4 * MOST_TEXT, 10
-# How long a connection may be there without a request, how often that is looked at, and how many connections there are at most.
-IDLE_SECONDS, LOOK_SECONDS, MOST_CONNECTIONS = 15, 1.0, 2000
-# How many pages of one student hear what the machine does, how often that is asked, how many programs of one student may wait, and
-# how many students' programs are run at the same time.
-MOST_HEARING, STATE_SECONDS, MOST_WAITING, MOST_RUNS = 4, 1.0, 8, 4
-# How often the teacher's page is made again at most.
-WALL_SECONDS = 3.0
+# How often it is looked who is connected, and whether the class has changed; and how often it is tried whether a page is still there.
+LOOK_SECONDS, BEAT_SECONDS = 1.0, 15
+# How many pages of one student hear what the machine does, how many programs of one student may wait, and how many students' programs
+# are run at the same time: they mostly wait for the farm.
+MOST_HEARING, MOST_WAITING, MOST_RUNS = 4, 8, 16
+# What the debugger is asked.
+HOWS = ("first", "last", "next", "back", "next line", "back line")
 # Nothing is loaded from elsewhere, and no page of another site shows these.
 POLICY = (
     "default-src 'none'; script-src 'self'; style-src 'self'; img-src 'self'; connect-src 'self'; frame-src 'self'; "
@@ -84,6 +90,27 @@ async def handled(handler: Handler, request: web.Request) -> web.StreamResponse:
         return plain(refusal.text or "", refusal.status)
 
 
+def program_of(asked: dict[str, Any]) -> Program:
+    """The text of a request."""
+    kind, text = asked["kind"], asked["text"]
+    if f".{kind}" not in (OCCAM, ASSEMBLY) or len(text.encode()) > MOST_TEXT:
+        raise ValueError
+    return Program(kind, text)
+
+
+async def until_first(*works: Coroutine[Any, Any, object]) -> None:
+    """Does works until the first has ended."""
+    tasks = [asyncio.ensure_future(it) for it in works]
+    try:
+        done, _ = await asyncio.wait(tasks, return_when=asyncio.FIRST_COMPLETED)
+        for it in done:
+            it.result()
+    finally:
+        for it in tasks:
+            it.cancel()
+        await asyncio.gather(*tasks, return_exceptions=True)
+
+
 class Site:
     """The pages of one class. `hosts` are the names, with ports, by which the site may be called, and `is_secure` says whether
     that is over TLS."""
@@ -93,10 +120,11 @@ class Site:
         self.book, self.farm, self.desks = Book(course), Farm(course), dict[str, Desk]()
         self.judge = Judge(self.course)
         self.hearing: dict[str, int] = {}
-        # the connections by which a whole request has come
-        self.seen = WeakSet[asyncio.Transport]()
+        self.doors, self.labs, self.debuggers = Doors(), Labs(), Debuggers()
         self.runs, self.nodes = asyncio.Semaphore(MOST_RUNS), Nodes()
-        self.wall_turn, self.wall_at, self.wall_tiles = asyncio.Lock(), 0.0, list[dict[str, str]]()
+        # called when the class has changed: who came since gets an address
+        self.came: Callable[[], None] = lambda: None
+        self.teacher = Teacher(self)
 
     def application(self) -> web.Application:
         app = web.Application(middlewares=[self.guarded], client_max_size=MOST_BODY)
@@ -106,10 +134,16 @@ class Site:
         app.router.add_get("/live", self.live)
         app.router.add_get("/film", self.film)
         app.router.add_get("/text", self.text)
-        app.router.add_get("/wall", self.wall)
+        app.router.add_get("/versions", self.versions)
+        app.router.add_get("/verbs", self.verbs)
+        app.router.add_get("/state", self.state)
+        app.router.add_get("/guide/{name}", self.guide)
         app.router.add_get("/exercises", self.exercises)
+        self.teacher.add_to(app)
         works: dict[str, Work] = {
             "/run": self.run,
+            "/mistakes": self.mistakes,
+            "/steps": self.steps,
             "/line": self.line,
             "/text": self.keep,
             "/check": partial(self.judged, "check"),
@@ -122,21 +156,24 @@ class Site:
 
     async def close(self, _: web.Application) -> None:
         self.judge.end()
+        self.debuggers.close()
         for desk in self.desks.values():
             await desk.close()
+        self.labs.close()
         self.book.close()
 
     @web.middleware
     async def guarded(self, request: web.Request, handler: Handler) -> web.StreamResponse:
         """Lets in who has a secret, and only if the page that asks is one of this site."""
+        who = self.book.who(request.cookies.get(COOKIE, ""))
         if request.transport is not None:
-            self.seen.add(request.transport)
+            self.doors.has_asked(request.transport, who)
         if request.host not in self.hosts:
             answer: web.StreamResponse = plain("there is no such site here\n", 421)
         elif request.path.startswith("/enter/"):
             answer = await handled(handler, request)
         else:
-            request["who"] = self.book.who(request.cookies.get(COOKIE, ""))
+            request["who"] = who
             changes = request.method != "GET" or "Upgrade" in request.headers
             origin = request.headers.get("Origin", "").partition("://")[2]
             if request["who"] is None:
@@ -166,16 +203,31 @@ class Site:
 
     async def file(self, request: web.Request) -> web.Response:
         name = request.match_info["name"]
-        if name not in KINDS:
+        if name not in FILES:
             raise web.HTTPNotFound
-        return web.Response(text=text_of(name), content_type=KINDS[name])
+        return web.Response(text=text_of(name), content_type=ENDINGS[name.rpartition(".")[2]])
 
     def desk(self, request: web.Request) -> Desk:
         """The machine that a request is about: the student's own. The teacher only looks."""
         name = request["who"]
-        if name == TEACHER or name not in self.farm.users():
+        if name == TEACHER:
             raise web.HTTPForbidden(text="this is for a student of the class\n")
-        return self.desks.setdefault(name, Desk(self.farm, name))
+        return self.desk_of(name)
+
+    def desk_of(self, name: str) -> Desk:
+        """The machine of a student of the class."""
+        if name not in self.farm.users():
+            raise web.HTTPForbidden(text="there is no such student in the class\n")
+        if name not in self.desks:
+            self.desks[name] = Desk(self.farm, name, self.labs)
+            if newest := self.book.newest(name):
+                # it may be what an earlier site has run; if it isn't, the lab says so
+                self.desks[name].program = Program(newest.kind, newest.text)
+        return self.desks[name]
+
+    def looked_at(self, request: web.Request) -> Desk:
+        """The machine that a request looks at: the student's own, or for the teacher that of the student who is named."""
+        return self.desk_of(request.query.get("of", "")) if request["who"] == TEACHER else self.desk(request)
 
     async def posted(self, work: Work, request: web.Request) -> web.Response:
         """Answers a request with a body, which is a JSON object with texts."""
@@ -195,9 +247,22 @@ class Site:
         await self.keep(desk, asked)
         async with self.turn(desk):
             try:
-                return await desk.run(asked["kind"], asked["text"], asked["send"])
+                return await desk.run(program_of(asked), asked["send"])
             except Wrong as wrong:
                 return {"error": f"{wrong}"}
+
+    async def mistakes(self, desk: Desk, asked: dict[str, Any]) -> dict[str, Any]:
+        """What is wrong with a text that is being written."""
+        async with self.look(desk):
+            return await desk.mistakes(program_of(asked))
+
+    async def steps(self, desk: Desk, asked: dict[str, Any]) -> dict[str, Any]:
+        """A step of the debugger through the newest record."""
+        if asked["how"] not in HOWS:
+            raise ValueError
+        async with self.look(desk):
+            line = int(asked["line"] or 0)
+            return await self.debuggers.ask(desk.name, desk.record(), desk.program, asked["how"], line)
 
     async def judged(self, verb: str, desk: Desk, asked: dict[str, Any]) -> dict[str, Any]:
         """Keeps the text, and tries it in an exercise, or hands it in."""
@@ -213,12 +278,26 @@ class Site:
     async def turn(self, desk: Desk) -> AsyncIterator[None]:
         """Waits until a program of a student may be run. A student's own programs wait for each other first, so that they hold up
         nobody else's."""
+        with self.waiting(desk):
+            async with desk.running, self.runs:
+                yield
+
+    @contextlib.asynccontextmanager
+    async def look(self, desk: Desk) -> AsyncIterator[None]:
+        """Waits until a text or a record of a student may be looked at, which holds up no program."""
+        with self.waiting(desk):
+            async with desk.looking:
+                yield
+
+    @staticmethod
+    @contextlib.contextmanager
+    def waiting(desk: Desk) -> Iterator[None]:
+        """Counts what a student asks, and refuses what is too much."""
         if desk.waiting >= MOST_WAITING:
             raise web.HTTPTooManyRequests(text=f"{MOST_WAITING} programs of yours wait already\n")
         desk.waiting += 1
         try:
-            async with desk.running, self.runs:
-                yield
+            yield
         finally:
             desk.waiting -= 1
 
@@ -231,21 +310,42 @@ class Site:
 
     async def keep(self, desk: Desk, asked: dict[str, Any]) -> dict[str, Any]:
         """Keeps a version of a text."""
-        kind, text = asked["kind"], asked["text"]
-        if f".{kind}" not in (OCCAM, ASSEMBLY) or len(text.encode()) > MOST_TEXT:
-            raise ValueError
-        self.book.keep(desk.name, kind, text)
+        self.book.keep(desk.name, *program_of(asked))
         return {}
+
+    async def verbs(self, request: web.Request) -> web.Response:
+        """What the field of lines completes."""
+        return web.json_response(self.desk(request).completions())
+
+    async def guide(self, request: web.Request) -> web.Response:
+        text = guide(request.match_info["name"])
+        if text is None:
+            raise web.HTTPNotFound
+        return page(text)
+
+    async def state(self, request: web.Request) -> web.Response:
+        """What a machine does now. None of it is an event."""
+        return web.json_response(await self.looked_at(request).state())
+
+    async def versions(self, request: web.Request) -> web.Response:
+        """When the versions of a student's text were kept, the newest first, or the one of a number."""
+        name, number = self.looked_at(request).name, request.query.get("number", "")
+        if number.isascii() and number.isdigit() and len(number) < 16:
+            it = self.book.version(name, int(number))
+            if it is None:
+                raise web.HTTPNotFound
+            return web.json_response(it._asdict())
+        return web.json_response([{"number": number, "at": at} for number, at in self.book.versions(name)])
 
     async def text(self, request: web.Request) -> web.Response:
         """The newest version of a student's text, for the student or the teacher."""
-        name = request.query.get("of", "") if request["who"] == TEACHER else self.desk(request).name
+        name = self.looked_at(request).name
         newest = self.book.newest(name)
         return web.json_response({"name": name, **(newest._asdict() if newest else {})})
 
     async def film(self, request: web.Request) -> web.Response:
-        desk = self.desk(request)
-        async with self.turn(desk):
+        desk = self.looked_at(request)
+        async with self.look(desk):
             status, text = await desk.film()
         return page(text, policy=FILM_POLICY) if status == 0 else plain(f"{text}\n", 409)
 
@@ -255,51 +355,40 @@ class Site:
         if self.hearing.get(desk.name, 0) >= MOST_HEARING:
             raise web.HTTPTooManyRequests(text=f"{MOST_HEARING} pages are open already\n")
         self.hearing[desk.name] = self.hearing.get(desk.name, 0) + 1
-        stream, last = web.WebSocketResponse(heartbeat=IDLE_SECONDS, max_msg_size=1024), None
+        stream = web.WebSocketResponse(heartbeat=BEAT_SECONDS, max_msg_size=1024)
         try:
             await stream.prepare(request)
-            while not stream.closed:
-                state = json.dumps(await desk.state())
-                if state != last:
-                    await asyncio.wait_for(stream.send_str(state), BODY_SECONDS)
-                    last = state
-                with contextlib.suppress(asyncio.TimeoutError):
-                    if (await stream.receive(STATE_SECONDS)).type != WSMsgType.TEXT:
-                        break
+            with desk.heard():
+                # a page says nothing: what it sends ends this, and so does its end
+                await until_first(self.tell(desk, stream), stream.receive())
         except (OSError, asyncio.TimeoutError):
             pass
         finally:
             self.hearing[desk.name] -= 1
         return stream
 
-    async def wall(self, request: web.Request) -> web.Response:
-        """A tile for each student, for the teacher."""
-        if request["who"] != TEACHER:
-            raise web.HTTPForbidden(text="this is for the teacher\n")
-        async with self.wall_turn:
-            if time.monotonic() > self.wall_at + WALL_SECONDS:
-                self.wall_tiles = await asyncio.to_thread(self.tiles)
-                self.wall_at = time.monotonic()
-        return web.json_response(self.wall_tiles)
+    @staticmethod
+    async def tell(desk: Desk, stream: web.WebSocketResponse) -> None:
+        """Tells a page what the machine does, each time that it is something else."""
+        number = 0
+        while not stream.closed:
+            number, state = await desk.after(number)
+            await asyncio.wait_for(stream.send_str(json.dumps(state)), BODY_SECONDS)
 
-    def tiles(self) -> list[dict[str, str]]:
-        """What the teacher sees of each student, those who need help first. No machine is asked anything."""
-        return [
-            {"name": it.user, "person": it.person, "kind": it.kind, "told": it.told, "why": "\n".join(it.lines)}
-            for it in tiles_of(self.course, self.nodes)
-        ]
+    def last_change(self) -> int:
+        """When what is kept of the class was written last."""
+        try:
+            return os.stat(os.path.join(self.course, CLASS)).st_mtime_ns
+        except OSError:
+            return 0
 
-    async def watch(self, runner: web.AppRunner) -> None:
-        """Ends connections by which no whole request has come in time, and the newest if there are too many."""
-        since: dict[int, float] = {}
+    async def watch(self) -> None:
+        """Looks who is connected, and who has come into the class."""
+        changed = self.last_change()
         while True:
             await asyncio.sleep(LOOK_SECONDS)
-            now, there = time.monotonic(), [*(runner.server.connections if runner.server else ())]
-            since = {id(it): since.get(id(it), now) for it in there}
-            for at, it in enumerate(there):
-                transport = it.transport
-                if transport is None or not isinstance(transport, asyncio.Transport):
-                    continue
-                is_late = transport not in self.seen and now > since[id(it)] + IDLE_SECONDS
-                if is_late or at >= MOST_CONNECTIONS:
-                    transport.abort()
+            self.doors.look()
+            if self.last_change() != changed:
+                changed = self.last_change()
+                with contextlib.suppress(Refused, OSError, sqlite3.Error):
+                    await asyncio.to_thread(self.came)

@@ -148,10 +148,17 @@ class Browser:
             raise PageFailed(f"{expression}: {told['exceptionDetails']}")
         return told["result"].get("value")
 
-    def press(self, key: str, shift: bool = False) -> None:
+    def press(self, key: str, shift: bool = False, control: bool = False) -> None:
         """Presses a key, as `a`, `ArrowLeft` or `Home`."""
+        more = {"text": "\r", "windowsVirtualKeyCode": 13} if key == "Enter" else {}
+        more |= {"windowsVirtualKeyCode": 9} if key == "Tab" else {}
         for kind in ("keyDown", "keyUp"):
-            self.ask("Input.dispatchKeyEvent", type=kind, key=key, modifiers=8 if shift else 0)
+            modifiers = (8 if shift else 0) + (2 if control else 0)
+            self.ask("Input.dispatchKeyEvent", type=kind, key=key, modifiers=modifiers, **more)
+
+    def type(self, text: str) -> None:
+        """Writes into what has the focus, as a keyboard does."""
+        self.ask("Input.insertText", text=text)
 
     def size(self, width: int, height: int) -> None:
         self.ask("Emulation.setDeviceMetricsOverride", width=width, height=height, deviceScaleFactor=1, mobile=False)

@@ -102,7 +102,7 @@ class Pages(Course):
         return self.request("POST", path, json.dumps(asked).encode(), headers)
 
     def run(self, name: str, text: str, send: str = "", kind: str = "occ") -> Any:
-        """What Run answers."""
+        """What Run answers, and behind it why the nodes do no more."""
         answer = self.post(name, "/run", kind=kind, text=text, send=send)
         assert answer.status == 200, answer
-        return answer.told()
+        return {**answer.told(), "why": self.get(name, "/state").told().get("why", [])}
