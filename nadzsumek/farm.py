@@ -14,14 +14,16 @@ from collections.abc import Callable, Iterator
 from typing import TYPE_CHECKING, Any
 
 from nadzsumek.serving import folder as folders
+from nadzsumek.serving import own_texts
+from nadzsumek.serving.by_line import told_by_line
 from nadzsumek.serving.connections import opened
 from nadzsumek.serving.kept import class_in, place_of
-from nadzsumek.serving.ports import ports_of
+from nadzsumek.serving.ports import ports_of, wiring_of
 
 from .dialogue import AT_ONCE, Dialogue
 from .failures import NoFarm, NotAnswered
 from .results import Note, check
-from .verbs import Collecting, Program, Verbs, loaded, question
+from .verbs import Collecting, Program, Recording, Verbs, loaded, path_of, question
 
 if TYPE_CHECKING:
     from nadzsumek.serving.ports import Ports
@@ -123,6 +125,16 @@ class Speaking(Verbs):
     def ports(self) -> Ports | None:
         return ports_of(self.folder, self.name)
 
+    def kept(self, host: int, program: Program, ports: str) -> None:
+        """Keeps the text of a program that was loaded, by what `ports` answers then."""
+        own_texts.OwnTexts(self.folder, self.name).loaded(
+            wiring_of(self.folder, self.name), host, path_of(host, program), lambda _: ports
+        )
+
+    def by_line(self, record: bytes, node: int | None) -> tuple[str, ...]:
+        """What `waits` says of a record."""
+        return (*told_by_line(record, own_texts.OwnTexts(self.folder, self.name).all(), node),)
+
     def late(self, pending: Pending, seconds: float) -> NotAnswered:
         """What is raised if no answer has come in this time."""
         return NotAnswered(pending.line, f"no answer has come in {seconds:g} seconds")
@@ -205,8 +217,23 @@ class User(Speaking):
                 raise self.late(pending, seconds)
 
     def load(self, host: int, program: Program) -> Any:
-        """Boots a program: the file of its text, an example's name, or bytes of code. A `Loaded`."""
-        return self.do(loaded(host, program))
+        """Boots a program: the file of its text, an example's name, or bytes of code. A `Loaded`. The text is kept for `waits`."""
+        done = self.do(loaded(host, program))
+        self.kept(host, program, self.ask("ports")[0])
+        return done
+
+    def record(self) -> bytes:
+        """The record of the user's machine since its last restart, as far as it goes now; no bytes if there is none."""
+        recording = Recording()
+        for asked in recording.questions():
+            self.do(asked)
+        return bytes(recording.content)
+
+    def waits(self, node: int | None = None) -> tuple[str, ...]:
+        """In which lines of the texts that were loaded the processes of the nodes wait, or of this one, with the variables that the
+        lines name."""
+        self.why()
+        return self.by_line(self.record(), node)
 
     def collect(self, host: int, count: int | None = None, seconds: float | None = None) -> bytes:
         """The bytes that came to a host; with a count or a time all that come until there are as many, or the time is over, 10
@@ -294,8 +321,25 @@ class AsyncUser(Speaking):
             raise self.dialogue.ended()
 
     async def load(self, host: int, program: Program) -> Any:
-        """Boots a program: the file of its text, an example's name, or bytes of code. A `Loaded`."""
-        return await self.do(await asyncio.to_thread(loaded, host, program))
+        """Boots a program: the file of its text, an example's name, or bytes of code. A `Loaded`. The text is kept for `waits`."""
+        done = await self.do(await asyncio.to_thread(loaded, host, program))
+        ports = await self.ask("ports")
+        await asyncio.to_thread(self.kept, host, program, ports[0])
+        return done
+
+    async def record(self) -> bytes:
+        """The record of the user's machine since its last restart, as far as it goes now; no bytes if there is none."""
+        recording = Recording()
+        for asked in recording.questions():
+            await self.do(asked)
+        return bytes(recording.content)
+
+    async def waits(self, node: int | None = None) -> tuple[str, ...]:
+        """In which lines of the texts that were loaded the processes of the nodes wait, or of this one, with the variables that the
+        lines name."""
+        await self.why()
+        record = await self.record()
+        return await asyncio.to_thread(self.by_line, record, node)
 
     async def collect(self, host: int, count: int | None = None, seconds: float | None = None) -> bytes:
         """The bytes that came to a host; with a count or a time all that come until there are as many, or the time is over, 10

@@ -116,10 +116,11 @@ def run_lab(program: str, words: list[str]) -> NoReturn:
 def start(program: str, words: list[str]) -> NoReturn:
     """Runs the lab with these words. The film that it prints becomes a page, unless the words ask for JSON. Programs are run and
     checked here, by plans and scripts that are made for them, and editors are served."""
+    lab = [sys.executable, "-S", "-B", "-P", os.path.abspath(__file__), program]
     if words == ["dap"]:
         from nadzsumek.debugging.adapter import main as serve_editor
 
-        sys.exit(serve_editor([sys.executable, "-S", "-B", "-P", os.path.abspath(__file__), program]))
+        sys.exit(serve_editor(lab))
     if words[:1] == ["check"]:
         from nadzsumek.course.orders import own_check
 
@@ -131,7 +132,7 @@ def start(program: str, words: list[str]) -> NoReturn:
     if words[:1] == ["film"] and "--json" not in words:
         from nadzsumek.film.page import run_beside
 
-        run_beside(functools.partial(run_lab, program, words))
+        run_beside(functools.partial(run_lab, program, words), lab, words[1:])
     run_lab(program, words)
 
 

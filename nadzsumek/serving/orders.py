@@ -14,7 +14,9 @@ from ..mistakes.verbs import (
     ALIASES,
     ALL,
     FILE,
+    NEW_FILE,
     OF_FILES,
+    OF_RECORD,
     OPERATORS,
     OWN_FILE,
     SENTENCE,
@@ -61,19 +63,21 @@ def split(name: str, line: str, ports: Ports | None = None) -> tuple[str, Verb, 
         raise Wrong(f"there is no verb {first!r}. load {table['load'].meaning}. Try: {load}")
     verb = find(table, first)
     most = len(verb.kinds)
-    if verb.kinds and verb.kinds[-1] in (TEXT, FILE, OWN_FILE, SENTENCE):
+    if verb.kinds and verb.kinds[-1] in (TEXT, FILE, OWN_FILE, NEW_FILE, SENTENCE):
         words = line.split(None, most)
     return first, verb, [it.strip() for it in words[1:]]
 
 
 def lines_of(name: str, line: str, ports: Ports | None = None) -> list[str]:
-    """The lines that a line asks for, none for `help` and `quit`, which the terminal does itself."""
+    """The lines that a line asks for, none for `help`, `quit` and those of records, which the terminal does itself."""
     first, verb, words = split(name, line, ports)
     if first in ALL:
         return []
     if first == "load" and words and not words[0].isdigit():
         raise Wrong(f"load wants the number of a host before the file. Try: {load_of(' '.join(words), ports)}")
     check(first, verb, words)
+    if first in OF_RECORD:
+        return []
     if first == "load":
         return loading(name, words[0], words[1])
     if first in OF_FILES:
@@ -159,9 +163,14 @@ def translated(path: str, *words: str) -> tuple[list[str] | None, str]:
     return done.stdout.decode().splitlines() if done.returncode == 0 else None, told
 
 
+def text_of(host: str, file: str) -> str:
+    """The path of the text that a `load` loads."""
+    return found(file, f"load {host}", examples())
+
+
 def loading(name: str, host: str, file: str) -> list[str]:
     """The lines that boot a program: its code, or pokes and a jump if it is too long for a boot."""
-    path = found(file, f"load {host}", examples())
+    path = text_of(host, file)
     try:
         build("connect", "lab")
         code, told = translated(path)

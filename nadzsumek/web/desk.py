@@ -14,7 +14,7 @@ from typing import TYPE_CHECKING, Any
 
 from ..failures import FarmError
 from ..farm import AsyncUser, Farm
-from ..mistakes.verbs import ALL, OF_FILES, Wrong
+from ..mistakes.verbs import ALL, OF_FILES, OF_RECORD, Wrong
 from ..results import Rest
 from ..serving.folder import program
 from ..serving.orders import lines_of, split
@@ -196,7 +196,7 @@ class Desk:
             first = split(self.name, line, user.ports)[0]
             if first in OF_FILES:
                 raise Wrong(FILES)
-            if first in ALL:
+            if first in (*ALL, *OF_RECORD):
                 raise Wrong(f"{first} is for a terminal: this page shows all of it")
             lines, self.why = lines_of(self.name, line, user.ports), None
             answers: list[list[str]] = await user.do(Question(lines, lambda it: it, strict=False))
