@@ -18,7 +18,7 @@ const WHO = plan.nodes.map((_, number) => {
     who.processes.push(processes);
     who.whys.push(why);
     who.changes.push(moment.v || {});
-    for (const [workspace] of processes) if (!who.lanes.includes(workspace)) who.lanes.push(workspace);
+    for (const [, , , lane] of moment.p ? processes : []) who.lanes[lane] = lane;
   }
   return who;
 });
@@ -50,7 +50,7 @@ function channelNamed(number, name, way) {
 }
 
 function waitText(number, row, isDeadlock) {
-  const [, , state, way, ...channels] = row;
+  const [, , state, , way, ...channels] = row;
   if (state === "goes on") return "goes on";
   if (state === "is ready") return "waits for the processor";
   const names = channels.map((it) => channelNamed(number, it, way)).join(" or ");
@@ -62,15 +62,14 @@ function waitText(number, row, isDeadlock) {
 // The processes of a node at a frame, each with its address, its line, and what it waits for; and what `why` says.
 function whoAt(facts, number, frame) {
   const who = WHO[number], at = lastUpTo(who.frames, frame);
-  const look = facts[NODES[number].look] || "";
-  if (at < 0 || look.startsWith("booting")) return { processes: [], why: "", isDeadlock: false };
+  if (at < 0) return { rows: [], processes: [], why: "", isDeadlock: false };
   const why = who.whys[at], isDeadlock = why.includes("a deadlock");
   const processes = who.processes[at].map((row) => {
-    const address = runs(row) ? facts[NODES[number].registers[0][1]] || 0 : row[1];
+    const address = row[1] || facts[NODES[number].registers[0][1]] || 0;
     return { workspace: row[0], address, state: row[2], place: lineAt(number, address),
       wait: waitText(number, row, isDeadlock), isDead: isDeadlock && row[2] === "waits" };
   });
-  return { processes, why, isDeadlock };
+  return { rows: who.processes[at], processes, why, isDeadlock };
 }
 
 // The variables of a node at a frame, and those that this frame changed.
@@ -87,25 +86,76 @@ const messages = story ? story.messages : [];
 marks.message = [...new Set(messages.map((it) => it[0]))];
 marks.dead = story ? [...new Set(story.deadlocks)] : [];
 const begins = story ? story.begin : 0;
-const messagesAt = (frame) => messages.filter((it) => it[0] === frame);
+const byFrame = new Map(marks.message.map((frame) => [frame, []]));
+messages.forEach((it) => byFrame.get(it[0]).push(it));
+const messagesAt = (frame) => byFrame.get(frame) || [];
 // the last event that the domain may record, and a user's byte for which there was no room
 marks.full = lines.map((it, number) => [it, number]).filter(([it, number]) => it.answer === "full" ||
   recordedAt(lastFrame(number)) >= plan.limit).map(([, number]) => lastFrame(number));
 
-// The process that runs at a frame, by its workspace; nothing if none does.
+// The process that runs at a frame, by its lane; nothing if none does.
 function runningAt(number, frame) {
   const at = lastUpTo(WHO[number].frames, frame);
   const row = at < 0 ? undefined : WHO[number].processes[at].find(runs);
-  return row ? row[0] : undefined;
+  return row ? row[3] : undefined;
 }
 
-// The line where a process first waited, or was ready, names its lane; else its place among the processes.
-function laneName(number, workspace) {
+// The line where a process first waited, or was ready, names its lane; the first process is the main one.
+function laneName(number, lane) {
   const who = WHO[number];
+  if (lane === 0) return "main";
   for (let at = 0; at < who.frames.length; at += 1) {
-    const row = who.processes[at].find((it) => it[0] === workspace && it[1]);
+    const row = who.processes[at].find((it) => it[3] === lane && it[1]);
     const place = row && lineAt(number, row[1]);
     if (place && place.line !== undefined) return "line " + place.line;
   }
-  return "process " + (who.lanes.indexOf(workspace) + 1);
+  return "process " + (lane + 1);
 }
+
+// ---- nodes that wait for one another by links
+
+// The nodes at the other ends of a link by which a process waits: undefined where a user may send or read, or nothing is joined.
+function partners(facts, number, link, way) {
+  const port = plan.ports.findIndex((it) => it.node === number && it.link === link);
+  const nodeOf = (it) => (it === undefined ? undefined : plan.ports[it].node);
+  if (way !== "out") {
+    const word = wordOf(wordAt(facts, port));
+    return [word.connected && word.input >= 0 ? nodeOf(word.input) : undefined];
+  }
+  const driven = plan.ports.map((_, output) => output).filter((output) => {
+    const word = wordOf(wordAt(facts, output));
+    return word.connected && word.input === port;
+  });
+  return driven.map(nodeOf);
+}
+
+// The nodes of which each waits for others of them alone, while nothing is under way: none of them can ever go on.
+function ringAt(facts, frame) {
+  const looks = NODES.map(({ look }) => facts[look] || "");
+  if (!story || looks.some((it) => it.startsWith("running")) || plan.hosts.some((_, it) => facts["host " + it + " sending"])) return [];
+  const waits = plan.nodes.map((_, number) => WHO[number].frames.length && looks[number].startsWith("idle")
+    ? whoAt(facts, number, frame).rows.filter((it) => it[2] === "waits") : []);
+  let ring = plan.nodes.map((_, number) => number).filter((number) => waits[number].length);
+  for (let count = -1; count !== ring.length; ) {
+    count = ring.length;
+    ring = ring.filter((number) => waits[number].every(([, , , , way, ...channels]) => channels.every((name) => {
+      if (!name.startsWith("link ")) return true;
+      const others = partners(facts, number, Number(name.slice(5)), way);
+      return others.length > 0 && others.every((it) => it !== undefined && it !== number && ring.includes(it));
+    })));
+  }
+  const byLinks = (number) => waits[number].some((it) => it.slice(5).some((name) => name.startsWith("link ")));
+  return ring.length > 1 && ring.every(byLinks) ? ring : [];
+}
+
+// The frame from which nodes wait for one another to the end of the film: after the last line by which something moved, or a few lines
+// before it, if these were messages to the switch that others followed.
+(function noteRing() {
+  if (!story || !isKnown(last) || ringAt(stateAt(last).facts, last).length === 0) return;
+  let number = lines.length - 1;
+  while (number >= 0 && ["read", "look"].includes(asked[number].verb)) number -= 1;
+  const isRing = (it) => ringAt(stateAt(lastFrame(it)).facts, lastFrame(it)).length > 0;
+  for (let count = 0; count < 64 && number > 0 && isRing(number - 1); count += 1) number -= 1;
+  marks.dead.push(number >= 0 && isRing(number) ? lastFrame(number) : last);
+  marks.dead.sort((one, other) => one - other);
+})();

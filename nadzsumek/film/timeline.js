@@ -10,9 +10,9 @@ plan.nodes.forEach((_, number) => {
   nodeRow.push(rows.length);
   rows.push({ name: "node " + number });
   const its = WHO[number].lanes.slice(0, MOST_LANES);
-  for (const workspace of its.length > 1 ? its : []) {
-    processRow[number][workspace] = rows.length;
-    rows.push({ name: "  " + laneName(number, workspace), workspace });
+  for (const lane of its.length > 1 ? its : []) {
+    processRow[number][lane] = rows.length;
+    rows.push({ name: "  " + laneName(number, lane), lane });
   }
 });
 // the names are to the left of the columns, uncut
@@ -29,7 +29,7 @@ const columns = [];
   plan.nodes.forEach((_, number) => {
     let before;
     WHO[number].frames.forEach((frame, at) => {
-      const row = WHO[number].processes[at].find(runs), now = row && row[0];
+      const row = WHO[number].processes[at].find(runs), now = row && row[3];
       if (now !== before) ends.add(frame);
       before = now;
     });
@@ -133,9 +133,9 @@ function timeShown(frame) {
   const svg = drawn("svg", { width, height: HEIGHT }), x = (number) => LEFT + (number - first) * WIDE + WIDE / 2;
   if (here >= 0) svg.append(drawn("rect", { x: x(here) - WIDE / 2, y: 16, width: WIDE, height: HEIGHT - 16,
     fill: "var(--mark)" }));
-  rows.forEach(({ name, workspace }, row) => {
-    const text = drawn("text", { x: workspace === undefined ? 2 : 14, y: rowAt(row) + 4,
-      class: workspace === undefined ? "" : "faint" }, name.trim());
+  rows.forEach(({ name, lane }, row) => {
+    const text = drawn("text", { x: lane === undefined ? 2 : 14, y: rowAt(row) + 4,
+      class: lane === undefined ? "" : "faint" }, name.trim());
     svg.append(text, drawn("path", { d: `M${LEFT} ${rowAt(row)}H${width}`, stroke: "var(--line)" }));
   });
   for (let number = first; number < first + count && number < columns.length; number += 1) {

@@ -7,9 +7,10 @@ const kindOf = (it) => (it.isDead ? "dead" : STATES[it.state] || "waiting");
 let chosen = 0, isChosen = false;
 
 // What `why` says of a node besides its processes, which are listed.
-function whyLines(why) {
-  const rest = why.split("\n").filter((it) => it && !/^ *(The process at|node \d+ at) /.test(it));
-  return rest.map((it) => it.trim()).map((it) => it.replace(/^node \d+/, "it"));
+function whyLines(number, why) {
+  const [first, ...rest] = why.split("\n").filter((it) => it && !/^ *The process at /.test(it));
+  const does = first && first !== "node " + number + " rests." ? [first.replace(/^node \d+ /, "")] : [];
+  return [...does, ...rest.map((it) => it.trim())];
 }
 
 const isAlarm = (text) => /deadlock|lost|dropped|halted|nobody will take|in vain/.test(text);
@@ -22,7 +23,7 @@ function processShown(number, it) {
     made("code", "", place ? place.text : ""), made("span", "wait", it.wait));
   row.dataset.workspace = hex(it.workspace, 8);
   row.dataset.address = hex(it.address, 8);
-  row.title = "workspace " + hex(it.workspace, 8) + ", at " + hex(it.address, 8);
+  row.title = it.wait + "; workspace " + hex(it.workspace, 8) + ", at " + hex(it.address, 8);
   return row;
 }
 
@@ -33,8 +34,10 @@ function nodeWho(state, number, frame) {
   box.dataset.node = number;
   if (kind === "halted" && FAULTS[fault]) box.append(made("div", "alarm", FAULTS[fault]));
   for (const it of processes) box.append(processShown(number, it));
-  for (const text of whyLines(why)) box.append(made("div", isAlarm(text) ? "alarm" : "faint", text));
-  if (!processes.length && !why && kind !== "booting") box.append(made("div", "faint", "no process is known"));
+  for (const text of whyLines(number, why)) {
+    const isShown = isAlarm(text) || number === chosen || !processes.length;
+    if (isShown) box.append(made("div", isAlarm(text) ? "alarm" : "faint", text));
+  }
   box.addEventListener("click", () => { [chosen, isChosen] = [number, true]; show(); });
   return box;
 }
@@ -91,6 +94,8 @@ function badges(state, frame) {
     if (isDeadlock) found.push(made("span", "badge dead", "deadlock in node " + number));
     if (look.startsWith("halted")) found.push(made("span", "badge fault", "node " + number + " has halted"));
   });
+  const ring = ringAt(state.facts, frame);
+  if (ring.length) found.push(made("span", "badge dead", "nodes " + ring.join(", ") + " wait for one another: deadlock"));
   if (isAt("loss", frame)) found.push(made("span", "badge loss", "a byte is lost"));
   if (isAt("full", frame)) found.push(made("span", "badge loss", "the room is full"));
   return found;
