@@ -243,3 +243,29 @@ def test_the_operator_has_none(verb: str) -> None:
         call = [f"{TOP}/connect", it.folder, "operator", "-c", verb]
         done = subprocess.run(call, capture_output=True, text=True, check=False)
         assert (done.returncode, f"{verb} is a verb of users" in done.stderr) == (1, True)
+
+
+def guide_blocks() -> list[str]:
+    """The program of the guide and the session at its terminal."""
+    text = Path(TOP, "docs/guides/DEBUGGING.md").read_text(encoding="utf-8")
+    return re.findall(r"```text\n(.*?)```", text.partition("## From a terminal alone")[2], re.S)
+
+
+def test_the_session_of_the_guide(folder: str) -> None:
+    """What docs/guides/DEBUGGING.md shows is what a student sees: a deadlock is found by line, seen in a film, and stepped back from. The
+    numbers of events depend on how the farm's threads take turns."""
+    program, session = guide_blocks()[:2]
+    put(f"{folder}/swap.occ", program)
+    with Served(PLAN) as it, Screen([f"{TOP}/connect", it.folder, "ann"], folder, HOME=folder, TERM="dumb") as ann:
+        ann.until("ann> ")
+        typed = [found for found in re.finditer(r"^(?:ann|debug)> (.*)$", session, re.M)]
+        ends = [it.start() for it in typed[1:]] + [len(session)]
+        for one, end, behind in zip(typed, ends, [*typed[1:], None]):
+            ann.press(f"{one[1]}\r")
+            prompt = behind[0].partition("> ")[0] + "> " if behind else None
+            shown = ann.until(prompt).removesuffix(prompt) if prompt else ann.end()[0]
+            shown = re.sub(r"after \d+ of \d+ events", "after N of N events", shown.replace("\r", ""))
+            shown = re.sub(r"after \d+ events", "after N events", shown.partition("\n")[2])
+            assert (one[1], shown.strip("\n")) == (one[1], session[one.end() : end].strip("\n"))
+        page = Path(f"{folder}/ann.html").read_text(encoding="utf-8")
+        assert re.search(r'"deadlocks":\[\d+\]', page) and "right ! n" in page

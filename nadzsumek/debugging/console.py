@@ -11,11 +11,13 @@ import sys
 from collections.abc import Callable, Iterator
 
 from ..mistakes.nearness import nearest
+from ..mistakes.verbs import Wrong
 from ..serving.folder import program
 from .engine import Engine, Process, Refused
 
 HISTORY = os.path.expanduser("~/.nadzsumek_debug_history")
 MOST_HISTORY = 1000
+PROMPT = "debug> "
 # How many lines `list` shows before the line and after it.
 AROUND = 5
 # What the words of gdb are here, and short forms.
@@ -76,8 +78,8 @@ class Console:
             "next": lambda _: self.step("over", False),
             "reverse-step": lambda _: self.step("in", True),
             "reverse-next": lambda _: self.step("over", True),
-            "continue": lambda _: self.run(False),
-            "reverse-continue": lambda _: self.run(True),
+            "continue": lambda _: self.go_on(False),
+            "reverse-continue": lambda _: self.go_on(True),
             "break": self.stop_at,
             "delete": self.delete,
             "where": lambda _: self.where(),
@@ -168,7 +170,7 @@ class Console:
             self.node, self.workspace = node, 0
         self.here()
 
-    def run(self, back: bool) -> None:
+    def go_on(self, back: bool) -> None:
         stops = sorted(self.stops)
         met = self.engine.seek([f"node {node} at line {line}" for node, line in stops] + ["fault"], back)
         if met is None:
@@ -231,6 +233,27 @@ class Console:
         if self.engine.here != before:
             self.workspace = 0
 
+    def run_lines(self) -> None:
+        """Does lines until they end."""
+        for line in lines_typed():
+            try:
+                self.do(line)
+            except (Refused, ValueError, OSError) as why:
+                print(f"error: {why}", flush=True)
+            except KeyboardInterrupt:
+                print(flush=True)
+
+    def run(self) -> None:
+        """Lets a person go through the record, and ends the debugger."""
+        try:
+            for text in self.engine.said:
+                self.show(text)
+            self.where()
+            with own_lines([*self.commands, *OF_LAB, "event", "quit"]):
+                self.run_lines()
+        finally:
+            self.engine.quit()
+
     def command_of(self, word: str) -> str:
         """The command that a word or its beginning names."""
         begun = [it for it in (*self.commands, *OF_LAB, "event") if it.startswith(word)]
@@ -256,13 +279,13 @@ class Console:
             raise Refused(f"there is no command {first!r}. " + (f"Is it {near}?" if near else "Try: help"))
 
 
-def lines_typed(prompt: Callable[[], str]) -> Iterator[str]:
+def lines_typed() -> Iterator[str]:
     """The lines that a person types, or those of standard input. An empty one is the one before it again."""
     last = ""
     is_person = sys.stdin.isatty() and sys.stdout.isatty()
     while True:
         try:
-            line = input(prompt() if is_person else "")
+            line = input(PROMPT if is_person else "")
         except KeyboardInterrupt:
             print(flush=True)
             continue
@@ -299,23 +322,30 @@ def own_lines(names: list[str]) -> Iterator[None]:
         readline.set_completer(completer)
 
 
-def look_through(words: list[str], lab: list[str] | None = None) -> None:
-    """Lets a person go through a record: its path, and the programs of its nodes as the lab wants them."""
-    named = {int(words[at + 1]): words[at + 2] for at, word in enumerate(words) if word == "--program"}
-    engine = Engine.open(lab or [program("lab")], words[0], named, -1)
-    engine.go(engine.events)
-    console = Console(engine, lambda text: print(text, flush=True))
+def opened(words: list[str], lab: list[str] | None = None) -> Console | None:
+    """A console at a record, by the words of `lab debug`; none if these are others, or the record can't be opened."""
+    record, programs, rest = "", dict[int, str](), iter(words)
+    for word in rest:
+        node, file = (next(rest, ""), next(rest, "")) if word == "--program" else ("", "")
+        if node.isdigit() and file:
+            programs[int(node)] = file
+        elif word.startswith("-") or record:
+            return None
+        else:
+            record = word
+    if not record:
+        return None
     try:
-        for text in engine.said:
-            console.show(text)
-        console.where()
-        with own_lines([*console.commands, *OF_LAB, "event", "quit"]):
-            for line in lines_typed(lambda: f"{engine.here}/{engine.events}> "):
-                try:
-                    console.do(line)
-                except (Refused, ValueError, OSError) as why:
-                    print(f"error: {why}", flush=True)
-                except KeyboardInterrupt:
-                    print(flush=True)
-    finally:
-        engine.quit()
+        engine = Engine.open(lab or [program("lab")], record, programs, -1)
+    except Refused:
+        return None
+    engine.go(engine.events)
+    return Console(engine, lambda text: print(text, flush=True))
+
+
+def look_through(words: list[str]) -> None:
+    """Lets a person go through a record: its path, and the programs of its nodes as the lab wants them."""
+    console = opened(words)
+    if console is None:
+        raise Wrong("the debugger can't open the record. Try: record, and then lab debug with its file")
+    console.run()

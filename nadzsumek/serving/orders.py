@@ -10,6 +10,7 @@ from typing import TYPE_CHECKING
 
 from ..mistakes.elsewhere import BY_WORD, meant
 from ..mistakes.nearness import nearest
+from ..mistakes.places import shown
 from ..mistakes.verbs import (
     ALIASES,
     ALL,
@@ -153,6 +154,13 @@ def handing(first: str, exercise: str, file: str) -> str:
     return f"{first} {exercise} {os.path.splitext(path)[1][1:]} {content.hex()}"
 
 
+def said_of(path: str, file: str, told: str) -> str:
+    """What the lab says of the text in a file, by the name that was given for it."""
+    said = told if path.endswith(OCCAM) else shown(os.path.abspath(path), told).rstrip("\n")
+    said = said.replace(f"{os.path.abspath(path)}:", f"{file}:")
+    return said if said.startswith(file) else f"{file}: {said}"
+
+
 def translated(path: str, *words: str) -> tuple[list[str] | None, str]:
     """The lines that `lab` prints of a program, which is in occam if its file's name says so: its code, or what the words ask
     for. Or what `lab` says is wrong."""
@@ -180,5 +188,5 @@ def loading(name: str, host: str, file: str) -> list[str]:
     except (OSError, Refused) as error:
         raise Wrong(f"{file} can't be {'compiled' if path.endswith(OCCAM) else 'assembled'}: {error}") from None
     if not lines:
-        raise Wrong(f"{file}: {told or 'lab was broken off'}")
+        raise Wrong(said_of(path, file, told) if told else f"{file}: lab was broken off")
     return [line.removeprefix(f"{name} ") for line in lines]

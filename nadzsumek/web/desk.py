@@ -6,7 +6,6 @@ from __future__ import annotations
 import asyncio
 import contextlib
 import os
-import re
 import subprocess
 import tempfile
 import time
@@ -14,6 +13,7 @@ from typing import TYPE_CHECKING, Any
 
 from ..failures import FarmError
 from ..farm import AsyncUser, Farm
+from ..mistakes.places import said_in
 from ..mistakes.verbs import ALL, OF_FILES, OF_RECORD, Wrong
 from ..results import Rest
 from ..serving.folder import program
@@ -35,8 +35,6 @@ FIRST_PAUSE, MOST_PAUSE = 0.01, 0.1
 MOST_STEPS, LAB_SECONDS, MOST_RECORD = 50_000_000, 20, 8 << 20
 # How many bytes are sent to a program by one run, and how many of what came are shown.
 MOST_SENT, MOST_SHOWN = 4096, 4096
-# What is wrong with a text, as the lab says it: the place, and what follows it.
-MISTAKE = re.compile(r"(?:line (\d+), column (\d+): )?(.*)", re.S)
 # Lines that a page doesn't ask: a file is one of the server's, and the program of the page is run by its button.
 FILES = "the page takes the program that it shows: press Run, Check or Submit"
 
@@ -45,13 +43,7 @@ Answer = dict[str, Any]
 
 def mistakes_of(told: str, path: str) -> list[Answer]:
     """What is wrong with a text, each with its line and column if it has a place."""
-    lines = [it.removeprefix(f"{path}: ") for it in told.splitlines()]
-    found = [MISTAKE.fullmatch(it) for it in lines if it]
-    return [
-        {"line": int(it[1]) if it[1] else None, "column": int(it[2]) if it[2] else None, "text": it[3]}
-        for it in found
-        if it
-    ]
+    return [{"line": it.line, "column": it.column, "text": it.text} for it in said_in(path, told)]
 
 
 def shown(content: bytes) -> Answer:
