@@ -141,6 +141,7 @@ $("title").textContent = document.title = "The domain of " + plan.users.join(" a
 $("span").textContent = spanText();
 for (const kind of ["fault", "loss", "byte", "dead"]) $("count-" + kind).textContent = told(marks[kind].length);
 $("begin").hidden = begins === 0;
+if (begins === 0) $("first").textContent = "first";
 $("legend").append(...LEGEND.map(([colour, text]) => {
   const it = made("span", "", text);
   it.style.color = `var(${colour})`;
