@@ -14,6 +14,8 @@ from collections.abc import Callable, Iterator
 from typing import TYPE_CHECKING, Any
 
 from nadzsumek.serving import folder as folders
+from nadzsumek.serving import own_texts
+from nadzsumek.serving.by_line import told_by_line
 from nadzsumek.serving.connections import opened
 from nadzsumek.serving.kept import class_in, place_of
 from nadzsumek.serving.ports import ports_of, wiring_of
@@ -21,7 +23,18 @@ from nadzsumek.serving.ports import ports_of, wiring_of
 from .dialogue import AT_ONCE, Dialogue
 from .failures import NoFarm, NotAnswered
 from .results import Machine, Note, Used, check, machine_of, used_of
-from .verbs import Collecting, Program, Verbs, loaded, number, question, refuse_lost, words_of_bytes
+from .verbs import (
+    Collecting,
+    Program,
+    Recording,
+    Verbs,
+    loaded,
+    number,
+    path_of,
+    question,
+    refuse_lost,
+    words_of_bytes,
+)
 
 if TYPE_CHECKING:
     from nadzsumek.serving.ports import Ports
@@ -153,6 +166,16 @@ class Speaking(Verbs):
         link = next(port for port in machine.nodes[node].links if port is not None)
         return link, machine.hosts[own].port, own
 
+    def kept(self, host: int, program: Program, ports: str) -> None:
+        """Keeps the text of a program that was loaded, by what `ports` answers then."""
+        own_texts.OwnTexts(self.folder, self.name).loaded(
+            wiring_of(self.folder, self.name), host, path_of(host, program), lambda _: ports
+        )
+
+    def by_line(self, record: bytes, node: int | None) -> tuple[str, ...]:
+        """What `waits` says of a record."""
+        return (*told_by_line(record, own_texts.OwnTexts(self.folder, self.name).all(), node),)
+
     def late(self, pending: Pending, seconds: float) -> NotAnswered:
         """What is raised if no answer has come in this time."""
         return NotAnswered(pending.line, f"no answer has come in {seconds:g} seconds")
@@ -239,11 +262,13 @@ class User(Speaking):
 
     def load(self, host: int, program: Program, checked: bool = True) -> Any:
         """Boots a program: the file of its text, an example's name, or bytes of code. A `Loaded`. It is refused if nothing would be
-        booted, as when the node runs already, unless it isn't to be checked."""
+        booted, as when the node runs already, unless it isn't to be checked. The text is kept for `waits`."""
         asked = loaded(host, program)
         if checked:
             refuse_lost(self.folder, self.name, host, program)
-        return self.do(asked)
+        done = self.do(asked)
+        self.kept(host, program, self.ask("ports")[0])
+        return done
 
     def place(self, program: Program, node: int = 0, host: int | None = None) -> Any:
         """Joins a node with a host, the user's first unless one is said, and boots a program there. A `Loaded`."""
@@ -254,6 +279,19 @@ class User(Speaking):
     def collect_words(self, host: int, count: int, seconds: float | None = None) -> tuple[int, ...]:
         """So many words of 32 bits that came to a host, with a sign; fewer if the time is over, 10 seconds unless it is said."""
         return words_of_bytes(self.collect(host, 4 * number(count, "a count"), seconds))
+
+    def record(self) -> bytes:
+        """The record of the user's machine since its last restart, as far as it goes now; no bytes if there is none."""
+        recording = Recording()
+        for asked in recording.questions():
+            self.do(asked)
+        return bytes(recording.content)
+
+    def waits(self, node: int | None = None) -> tuple[str, ...]:
+        """In which lines of the texts that were loaded the processes of the nodes wait, or of this one, with the variables that the
+        lines name."""
+        self.why()
+        return self.by_line(self.record(), node)
 
     def collect(self, host: int, count: int | None = None, seconds: float | None = None) -> bytes:
         """The bytes that came to a host; with a count or a time all that come until there are as many, or the time is over, 10
@@ -362,11 +400,14 @@ class AsyncUser(Speaking):
 
     async def load(self, host: int, program: Program, checked: bool = True) -> Any:
         """Boots a program: the file of its text, an example's name, or bytes of code. A `Loaded`. It is refused if nothing would be
-        booted, as when the node runs already, unless it isn't to be checked."""
+        booted, as when the node runs already, unless it isn't to be checked. The text is kept for `waits`."""
         asked = await asyncio.to_thread(loaded, host, program)
         if checked:
             await asyncio.to_thread(refuse_lost, self.folder, self.name, host, program)
-        return await self.do(asked)
+        done = await self.do(asked)
+        ports = await self.ask("ports")
+        await asyncio.to_thread(self.kept, host, program, ports[0])
+        return done
 
     async def place(self, program: Program, node: int = 0, host: int | None = None) -> Any:
         """Joins a node with a host, the user's first unless one is said, and boots a program there. A `Loaded`."""
@@ -377,6 +418,20 @@ class AsyncUser(Speaking):
     async def collect_words(self, host: int, count: int, seconds: float | None = None) -> tuple[int, ...]:
         """So many words of 32 bits that came to a host, with a sign; fewer if the time is over, 10 seconds unless it is said."""
         return words_of_bytes(await self.collect(host, 4 * number(count, "a count"), seconds))
+
+    async def record(self) -> bytes:
+        """The record of the user's machine since its last restart, as far as it goes now; no bytes if there is none."""
+        recording = Recording()
+        for asked in recording.questions():
+            await self.do(asked)
+        return bytes(recording.content)
+
+    async def waits(self, node: int | None = None) -> tuple[str, ...]:
+        """In which lines of the texts that were loaded the processes of the nodes wait, or of this one, with the variables that the
+        lines name."""
+        await self.why()
+        record = await self.record()
+        return await asyncio.to_thread(self.by_line, record, node)
 
     async def collect(self, host: int, count: int | None = None, seconds: float | None = None) -> bytes:
         """The bytes that came to a host; with a count or a time all that come until there are as many, or the time is over, 10

@@ -51,7 +51,7 @@ def run(kind: str, line: str, cell: str) -> Shown:
             )
         except subprocess.TimeoutExpired:
             return Shown(f"it took more than {SECONDS} seconds", False)
-    return Shown((done.stdout + done.stderr).replace(f"{path}: ", "").rstrip("\n"), done.returncode == 0)
+    return Shown((done.stdout + done.stderr).replace(f"{room}/", "").rstrip("\n"), done.returncode == 0)
 
 
 def cell_of(kind: str) -> Callable[[str, str], Shown]:

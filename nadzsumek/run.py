@@ -10,6 +10,7 @@ import subprocess
 import sys
 import tempfile
 
+from .mistakes.places import shown as as_shown
 from .mistakes.verbs import Wrong
 from .serving.escapes import escaped
 from .serving.folder import Refused
@@ -157,8 +158,9 @@ def check_text(lab: Lab, path: str, memory: int, are_several: bool) -> None:
     else:
         with open(path, "rb") as file:
             status, _, told = lab.ask("assemble", "--listing", text=file.read())
+        told = as_shown(path, told)
     for line in told.splitlines():
-        print(escaped(f"{path}: {line}" if are_several else line), file=sys.stderr)
+        print(escaped(line, "\t"), file=sys.stderr)
     if status:
         sys.exit(status)
 

@@ -5,14 +5,15 @@ from __future__ import annotations
 import os
 import tempfile
 import time
-from collections.abc import Callable, Iterable
+from collections.abc import Callable, Iterable, Iterator
 from typing import Any, TypeAlias
 
 from nadzsumek.course import telling
 from nadzsumek.mistakes.verbs import Wrong
 from nadzsumek.serving.folder import OPERATOR
 from nadzsumek.serving.loads import Hindered, check_load
-from nadzsumek.serving.orders import lines_of, loading
+from nadzsumek.serving.orders import lines_of, loading, text_of
+from nadzsumek.serving.own_record import MOST_RESTARTS, VERB, found_in, lines_for, piece_in
 from nadzsumek.serving.ports import wiring_of
 from nadzsumek.serving.texts import quoted
 
@@ -117,6 +118,49 @@ def words_of_bytes(content: bytes) -> tuple[int, ...]:
     if len(content) % 4:
         raise ValueError(f"{len(content)} bytes are no whole words: collect has them as bytes")
     return tuple(int.from_bytes(content[at : at + 4], "little", signed=True) for at in range(0, len(content), 4))
+
+
+def path_of(host: int, program: Program) -> str | None:
+    """The path of a program's text; none of bytes of code."""
+    if isinstance(program, (bytes, bytearray, memoryview)):
+        return None
+    return text_of(f"{host:d}", os.fspath(program))
+
+
+class Recording:
+    """What is asked for a record, and what has come of it. If the machine restarts meanwhile it begins again."""
+
+    def __init__(self) -> None:
+        self.content, self.left = bytearray(), MOST_RESTARTS
+        self.size: tuple[int, int] | None = None
+
+    def questions(self) -> Iterator[Question]:
+        """The questions, one after another; each is to be asked before the next is taken."""
+        while self.left:
+            self.left -= 1
+            self.content, self.size = bytearray(), None
+            yield Question([VERB], self.begin)
+            if self.size is None:
+                return
+            for lines in lines_for(*self.size):
+                yield Question(lines, self.add)
+                if self.size is None:
+                    break
+            else:
+                return
+
+    def begin(self, answers: list[list[str]]) -> None:
+        self.size = found_in(answers[0][0])
+
+    def add(self, answers: list[list[str]]) -> None:
+        for answer in answers:
+            piece = piece_in(answer[0])
+            if piece is None:
+                self.size = None
+            elif self.size is not None:
+                # the last piece may go on further than the record did
+                self.content += piece
+                del self.content[self.size[1] :]
 
 
 class Collecting:

@@ -42,6 +42,14 @@ def pytest_terminal_summary(terminalreporter: TerminalReporter, config: pytest.C
             file.write(f"{passed} {sum(failed)}\n")
 
 
+@pytest.fixture(scope="session", autouse=True)
+def own_state() -> Iterator[None]:
+    """What programs keep between their runs is kept for these tests alone."""
+    with tempfile.TemporaryDirectory() as room:
+        os.environ["XDG_STATE_HOME"] = room
+        yield
+
+
 @pytest.fixture(scope="session")
 def farm() -> str:
     """The path of the program."""

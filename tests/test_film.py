@@ -322,7 +322,8 @@ def test_page_is_one_file(tmp_path: Path) -> None:
     status, page, errors = lab(words)
     assert (status, errors) == (0, "")
     assert not re.search(r"<link|<script[^>]* src|https?://(?!www\.w3\.org/2000/svg)", page)
-    assert (page.count("alert()"), page.count("<script>alert")) == (1, 0)
+    # the line beside its code, and the whole text
+    assert (page.count("alert()"), page.count("<script>alert")) == (2, 0)
     (tmp_path / "page.html").write_text(page, encoding="utf-8")
     assert json_of(f"{tmp_path}/page.html") == json.loads(lab([*words, "--json"])[1])
 
@@ -478,6 +479,11 @@ def test_keys_and_jumps(browser: Browser, tmp_path: Path) -> None:
     """Every key, the buttons, the slider, a click on the time line, and the address."""
     film = Film(browser, tmp_path, worked_record())
     assert film.shown()["counts"] == ["1", "1", "22"]
+    # it opens where the node begins to run, and the boot is a key away
+    begin = film.shown()["event"]
+    looks = [asked(film.record, it, ["0 look 0 @0"])[0].split()[0] for it in (begin - 1, begin)]
+    assert (looks, film.press("Home"), film.press("p")) == (["booting", "running"], 0, begin)
+    film.press("Home")
     assert film.shown()["text"] == "The domain as it was opened."
     assert [
         film.press("ArrowRight"),
@@ -527,10 +533,15 @@ def test_keys_and_jumps(browser: Browser, tmp_path: Path) -> None:
     assert browser.look("[...document.querySelectorAll('button[data-key]:disabled')].map((it) => it.dataset.key)") == [
         "ArrowRight",
         "End",
+        # no two processes have met, and none waits for ever
+        "M",
+        "m",
         "Shift+ArrowRight",
         "f",
         "L",
         "l",
+        "D",
+        "d",
         "b",
     ]
     browser.look(

@@ -51,7 +51,7 @@ def test_cells(lab: str) -> None:
     assert '"IBM"' in repr(shown)
     assert "07" in repr(shell.cells["t414"]("", SEVEN))
     shown = shell.cells["occam"]("", "SEQ\n  x := 1\n")
-    assert repr(shown).startswith("line 2, column 3: ")
+    assert repr(shown).startswith("cell.occ:2:3: ")
     assert "&quot;x&quot;" in getattr(shown, "_repr_html_")()
 
 

@@ -155,6 +155,8 @@ def compiled(lab: str, made: Made, path: str) -> Compiled:
         )
     if b": warning 42: " in text.errors:
         raise Unlike(f"a variable is said to be new, and isn't: {told(text)}")
+    if b": warning 52: " in text.errors:
+        raise Unlike(f"a process is said to wait for itself, and doesn't: {told(text)}")
     core_again(lab, path, ours)
     return Compiled(made, path, text.output, ours)
 
@@ -330,7 +332,7 @@ def all_runs(farm: str, lab: str, folder: str, programs: list[Compiled]) -> list
 
 # ---- mistakes
 
-FAULT = re.compile(r"(?m)^(?:\S+: )?line (\d+), column (\d+): fault (\d+): ")
+FAULT = re.compile(r"(?m)^\S+:(\d+):(\d+): fault (\d+): ")
 
 
 def wrong_mistake(lab: str, status: int | None, path: str, mistake: Mistake) -> str | None:

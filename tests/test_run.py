@@ -99,10 +99,10 @@ def test_refused_programs(lab: str, folder: str) -> None:
     wrong = put(f"{folder}/wrong.occ", WRONG)
     told = run([lab, "occam", wrong]).errors.decode().splitlines()
     assert lines_of(lab, wrong, status=4) == told
-    assert lines_of(lab, f"{OCCAM}/echo.occ", wrong, status=4) == [f"{wrong}: {told[0]}"]
-    assert lines_of(lab, put(f"{folder}/wrong.s", "ldc 5x\n"), status=4) == [
-        'line 1, column 6: fault 11: expected the end of the line, not "x"'
-    ]
+    assert lines_of(lab, f"{OCCAM}/echo.occ", wrong, status=4) == told
+    path = put(f"{folder}/wrong.s", "ldc 5x\n")
+    said = f'{path}:1:6: fault 11: expected the end of the line, not "x"'
+    assert lines_of(lab, path, status=4) == [said, "    ldc 5x", "         ^"]
     near = f"{folder}/wrnog.occ: it can't be read: No such file or directory. Is it {wrong}?"
     assert lines_of(lab, f"{folder}/wrnog.occ", status=6) == [near]
     os.mkdir(f"{folder}/own.occ")

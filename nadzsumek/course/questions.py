@@ -6,19 +6,15 @@ KIND is `occ` or `s`, and HEX the bytes of the text. The answer is the verb and 
 
 from __future__ import annotations
 
-import asyncio
 import json
 import os
 import re
-from typing import TYPE_CHECKING
 
+from ..serving.beside import Beside
 from ..serving.folder import CLASS
 from ..serving.speakers import UNANSWERED, shown
 from .judging import Judge
 from .telling import REFUSED
-
-if TYPE_CHECKING:
-    from ..serving.speakers import Asked, Speaker
 
 # What stands behind each verb.
 TEXT = r"([a-z0-9][a-z0-9-]{0,63}) (occ|s) ((?:[0-9a-f]{2})+)"
@@ -44,28 +40,13 @@ def question_of(line: bytes) -> tuple[str, list[str], str | None]:
         return verb, [], "the text isn't UTF-8"
 
 
-class Course:
+class Course(Beside):
     """Answers lines about the exercises of the class to which the farm in this folder belongs."""
 
     def __init__(self, farm: str) -> None:
+        super().__init__()
         self.folder = os.path.dirname(farm)
-        self.judge, self.answering = Judge(self.folder), set[asyncio.Task[None]]()
-
-    def answer(self, speaker: Speaker, asked: Asked) -> None:
-        """Answers a line, beside all others."""
-        assert asked.client, "a client has asked"
-        asked.client.waits += 1
-        task = asyncio.ensure_future(self.tell(speaker, asked))
-        self.answering.add(task)
-        task.add_done_callback(self.answering.discard)
-
-    async def tell(self, speaker: Speaker, asked: Asked) -> None:
-        assert asked.client, "a client has asked"
-        client, text = asked.client, await self.text(speaker.name, asked.text)
-        client.waits -= 1
-        speaker.free(asked)
-        speaker.tell_answers([(text + b"\n", asked)])
-        speaker.rest()
+        self.judge = Judge(self.folder)
 
     async def text(self, user: str, line: bytes) -> bytes:
         """The answer to a line."""
@@ -82,5 +63,4 @@ class Course:
     async def end(self) -> None:
         """Ends what is being answered: its lines are told as not answered."""
         self.judge.end()
-        if self.answering:
-            await asyncio.wait([*self.answering])
+        await super().end()

@@ -23,6 +23,8 @@ CHUNKS = (200, 2_000, 20_000, 100_000)
 BOOTED, POKED, MOST_BOOT = 0x80000048, 0x80000050, 255
 # The first word of memory, which is the word of an empty channel too, and how many words there are of channels at links.
 NO_PROCESS, LINK_WORDS = 0x80000000, 8
+# How a process waits whose last instruction ended with this byte: by in, out, outbyte, outword or altwt.
+WAYS = {0xF7: "in", 0xFB: "out", 0xFE: "out", 0xFF: "out", 0xF4: "alt"}
 
 
 class Refused(Exception):
@@ -67,6 +69,24 @@ class Process:
     state: str  # `goes on`, `is ready`, `waits`, or what the node does
     address: int | None
     spot: Spot
+    way: str = ""  # of one that waits: `in`, `out` or `alt`
+    channels: list[str] = field(default_factory=list)  # and at which
+
+    @property
+    def wait(self) -> str:
+        """What it waits for."""
+        if not self.way:
+            return ""
+        names = " or ".join(self.channels)
+        return f"to send by {names}" if self.way == "out" else f"to receive by {names}"
+
+
+@dataclass
+class Channels:
+    """The names of a node's channels by the addresses of their words, and the ranges of these words."""
+
+    names: dict[int, str]
+    ranges: list[tuple[int, int]]
 
 
 @dataclass
@@ -91,28 +111,42 @@ class Engine:
     said: list[str] = field(default_factory=list)
     tables: dict[int, Table] = field(default_factory=dict)
     output: list[tuple[int, int, int]] = field(default_factory=list)
+    channels: dict[int, Channels] = field(default_factory=dict)
+    ways: dict[tuple[int, int], str] = field(default_factory=dict)
 
     @staticmethod
-    def open(lab: list[str], record: str, programs: dict[int, str], output_up_to: int) -> "Engine":
+    def open(
+        lab: list[str], record: str, programs: dict[int, str], output_up_to: int, with_tables: bool = True
+    ) -> "Engine":
         words = [*lab, "debug", record]
         for node, file in programs.items():
             words += ["--program", str(node), file]
         pipe = subprocess.PIPE
         engine = Engine(lab, programs, subprocess.Popen(words, stdin=pipe, stdout=pipe, stderr=pipe, text=True))
         engine.said = [line for line in engine.ask("") if not PLACE.match(line)]
-        engine.tables = {node: engine.table(node, file) for node, file in programs.items()}
+        if with_tables:
+            engine.tables = {node: engine.table(node, file) for node, file in programs.items()}
         if engine.events <= output_up_to:
             engine.index_output()
         engine.go(0)
         return engine
 
     def ask(self, command: str) -> list[str]:
+        return self.ask_all([command])[0]
+
+    def ask_all(self, commands: list[str]) -> list[list[str]]:
+        """The answers to several commands, which are sent together."""
         assert self.child.stdin and self.child.stdout and self.child.stderr
         try:
-            self.child.stdin.write(command.replace("\n", " ") + f"\n{WRONG}\n")
+            self.child.stdin.write("".join(command.replace("\n", " ") + f"\n{WRONG}\n" for command in commands))
             self.child.stdin.flush()
         except BrokenPipeError:
             pass
+        return [self.answer() for _ in commands]
+
+    def answer(self) -> list[str]:
+        """The lines of the next answer."""
+        assert self.child.stdout and self.child.stderr
         lines: list[str] = []
         for raw in self.child.stdout:
             line = raw.rstrip("\n")
@@ -257,10 +291,6 @@ class Engine:
 
     # What is there.
 
-    def words(self, node: int, address: int, count: int = 1) -> list[int]:
-        answer = self.ask(f"memory {node} {address:08x} {count}")
-        return [int(it, 16) for line in answer if "outside" not in line for it in line.split()[1:]]
-
     def variables(self, node: int, name: str = "") -> list[Variable]:
         found: list[Variable] = []
         for it in filter(None, map(VARIABLE.match, self.ask(f"variables {node} {name}"))):
@@ -275,35 +305,85 @@ class Engine:
         return re.findall(r" ([A-Za-z]+) ([0-9a-f]+)", " ".join(self.ask(f"registers {node}")))
 
     def processes(self) -> list[Process]:
-        """All processes at this moment, put together from `look`, `queue`, `code`, `memory`, `variables` and `why`."""
+        """All processes at this moment."""
         found: list[Process] = []
         for state in self.ask("look"):
             node, does = int(state.split()[1]), state.split(" overruns")[0].split(maxsplit=2)[2]
             if node not in self.programs or does == "booting":
                 found.append(Process(node, 0, does, None, Spot()))
                 continue
-            table = self.tables[node]
-            marked = [it for line in self.ask(f"code {node}") if (it := CODE.match(line)) and it[1] == ">"]
-            ahead = int(marked[0][2], 16) if marked else None
-            places: dict[int, tuple[str, int]] = {}
-            for line in self.ask(f"queue {node}"):
-                if (it := QUEUE.match(line)) and it[3] != "-":
-                    places[int(it[2], 16)] = ("runs" if it[1] == "runs" else "is ready", int(it[3], 16))
-            held = self.words(node, NO_PROCESS, LINK_WORDS)  # the processes that wait at links
-            for channel in self.variables(node):
-                if channel.type == "CHAN" and channel.value.startswith("a process"):
-                    held += self.words(node, int(channel.address, 16))
-            for workspace in (it & ~3 for it in held if it not in (0, NO_PROCESS)):
-                at = self.words(node, workspace - 4)
-                if workspace not in places and at:
-                    places[workspace] = ("waits", at[0])
-            runs = any(what == "runs" for what, _ in places.values())
-            for workspace, (what, address) in places.items():
-                if what == "runs" or (not runs and address == ahead):
-                    what, runs = "goes on", True
-                found.append(Process(node, workspace, what, address, table.around(address - (what == "waits"))))
-            if not places:
+            its = self.processes_of(node)
+            if not its:
                 erred = [int(it[1], 16) for line in self.ask(f"why {node}") if (it := ERRED.match(line))]
-                address_or_none = erred[0] if erred else ahead
-                found.append(Process(node, 0, does, address_or_none, table.around(address_or_none)))
+                address = erred[0] if erred else self.ahead(node)
+                its = [Process(node, 0, does, address, self.tables[node].around(address))]
+            found += its
         return found
+
+    def ahead(self, node: int) -> int | None:
+        """The address of the instruction that a node does next."""
+        marked = [it for line in self.ask(f"code {node}") if (it := CODE.match(line)) and it[1] == ">"]
+        return int(marked[0][2], 16) if marked else None
+
+    def processes_of(self, node: int) -> list[Process]:
+        """The processes of a node that has booted: which of them runs, which wait for the processor, and which at a link or at a
+        channel, as `queue`, `memory` and `variables` of the debugger say it."""
+        table, channels = self.tables.get(node, Table()), self.channels_of(node)
+        asked = [f"queue {node}", *(f"memory {node} {first:08x} {count}" for first, count in channels.ranges)]
+        queue, *words = self.ask_all(asked)
+        places = dict[int, tuple[str, int]]()
+        for line in queue:
+            if (it := QUEUE.match(line)) and it[3] != "-":
+                places[int(it[2], 16)] = ("runs" if it[1] == "runs" else "is ready", int(it[3], 16))
+        held = dict[int, list[str]]()
+        for (first, _), lines in zip(channels.ranges, words):
+            for number, word in enumerate(words_in(lines)):
+                name = channels.names.get(first + 4 * number)
+                if name is not None and word & 1 and (word & ~3) not in places:
+                    held.setdefault(word & ~3, []).append(name)
+        saved = self.ask_all([f"memory {node} {workspace - 4:08x} 1" for workspace in held]) if held else []
+        places |= {workspace: ("waits", at[0]) for workspace, it in zip(held, saved) if (at := words_in(it))}
+        # one whose message has come whole isn't in the queue yet, and goes on with the next Step
+        ahead = None if any(what == "runs" for what, _ in places.values()) else self.ahead(node)
+        found: list[Process] = []
+        for workspace, (what, address) in places.items():
+            way = self.way_of(node, address - 1) if what == "waits" else ""
+            what = "goes on" if what == "runs" or address == ahead else what
+            if what == "waits" and way:
+                spot = table.around(address - 1)
+                found.append(Process(node, workspace, what, address, spot, way, held[workspace]))
+            elif what != "waits":
+                found.append(Process(node, workspace, what, address, table.around(address)))
+        return found
+
+    def channels_of(self, node: int) -> Channels:
+        """The words of a node's channels: those at links, and those of its program."""
+        if node not in self.channels:
+            names = {NO_PROCESS + 4 * it: f"link {it % 4}" for it in range(LINK_WORDS)}
+            if node in self.programs:
+                its = filter(None, map(VARIABLE.match, self.ask(f"variables {node}")))
+                names |= {int(it[1], 16): it[3] for it in its if it[2] == "CHAN"}
+            self.channels[node] = Channels(names, [*ranges_of(sorted(names))])
+        return self.channels[node]
+
+    def way_of(self, node: int, address: int) -> str:
+        """How a process waits whose last instruction has its last byte there; empty if it can't wait there."""
+        if (node, address) not in self.ways:
+            word = words_in(self.ask(f"memory {node} {address & ~3:08x} 1"))
+            byte = (word[0] >> 8 * (address & 3)) & 0xFF if word else 0
+            self.ways[node, address] = WAYS.get(byte, "")
+        return self.ways[node, address]
+
+
+def words_in(lines: list[str]) -> list[int]:
+    """The words of an answer to `memory`."""
+    return [int(it, 16) for line in lines if "outside" not in line for it in line.split()[1:]]
+
+
+def ranges_of(addresses: list[int]) -> Iterator[tuple[int, int]]:
+    """The ranges of words at these ascending addresses: the first, and how many there are."""
+    first = 0
+    for number, address in enumerate(addresses):
+        if number + 1 == len(addresses) or addresses[number + 1] != address + 4:
+            yield addresses[first], number + 1 - first
+            first = number + 1

@@ -44,6 +44,7 @@ function show() {
   $("number").value = recordedAt(now);
   $("event").textContent = eventText(now);
   $("event").className = isAt("fault", now) ? "fault" : isAt("loss", now) ? "loss" : "";
+  whoShown(state, now, number);
   $("crossbar").replaceWith(switchShown(state.facts, number));
   $("words").textContent = wordsText(state.facts);
   $("nodes").replaceChildren(...plan.nodes.map((_, node) => nodeShown(state, node, change)));
@@ -82,6 +83,8 @@ const lineBehind = () => {
 const TARGETS = { ArrowLeft: () => before(1), ArrowRight: () => behind(1), PageUp: () => before(100), PageDown: () =>
   behind(100),
   Home: () => before(last), End: () => behind(last), "Shift+ArrowLeft": lineBefore, "Shift+ArrowRight": lineBehind,
+  p: () => (now === begins ? undefined : begins), m: () => placeOf("message", true), M: () => placeOf("message", false),
+  d: () => placeOf("dead", true), D: () => placeOf("dead", false),
   f: () => placeOf("fault", true), F: () => placeOf("fault", false), l: () => placeOf("loss", true), L: () =>
     placeOf("loss", false),
   b: () => placeOf("byte", true), B: () => placeOf("byte", false) };
@@ -108,8 +111,9 @@ $("number").addEventListener("change", () => {
 function stripShown() {
   const canvas = $("strip"), context = canvas.getContext("2d"), style = getComputedStyle(document.documentElement);
   canvas.width = canvas.clientWidth;
-  for (const [kind, top, height] of [["byte", 4, 3], ["loss", 0, 10], ["fault", 0, 10]]) {
-    context.fillStyle = style.getPropertyValue("--" + kind);
+  for (const [kind, top, height] of [["message", 0, 3], ["byte", 4, 3], ["loss", 0, 10], ["full", 0, 10], ["dead", 0, 10],
+    ["fault", 0, 10]]) {
+    context.fillStyle = style.getPropertyValue("--" + (kind === "full" ? "loss" : kind));
     const places = new Set(marks[kind].map((at) => Math.round((at / Math.max(1, last)) * (canvas.width - 16)) + 7));
     for (const at of places) context.fillRect(at, top, 2, height);
   }
@@ -117,7 +121,7 @@ function stripShown() {
 
 function readFragment() {
   const wanted = location.hash.replace("#event=", "");
-  now = wanted === "last" ? last : frameOfEvent(Number(wanted) || 0);
+  now = wanted === "last" ? last : wanted === "" ? begins : frameOfEvent(Number(wanted) || 0);
   show();
 }
 
@@ -135,7 +139,9 @@ addEventListener("resize", () => { stripShown(); show(); });
 matchMedia("(prefers-color-scheme: dark)").addEventListener("change", stripShown);
 $("title").textContent = document.title = "The domain of " + plan.users.join(" and ");
 $("span").textContent = spanText();
-for (const kind in marks) $("count-" + kind).textContent = told(marks[kind].length);
+for (const kind of ["fault", "loss", "byte", "dead"]) $("count-" + kind).textContent = told(marks[kind].length);
+$("begin").hidden = begins === 0;
+if (begins === 0) $("first").textContent = "first";
 $("legend").append(...LEGEND.map(([colour, text]) => {
   const it = made("span", "", text);
   it.style.color = `var(${colour})`;

@@ -3,20 +3,20 @@ for no other: the page of this folder with its style, its scripts and the film i
 
 from __future__ import annotations
 
+import json
 import os
 import re
-import signal
 import sys
 from collections.abc import Callable
 from typing import NoReturn
+
+from nadzsumek.beside import begun, end_as
 
 FOLDER = os.path.dirname(os.path.abspath(__file__))
 # What a film begins with. The help of the program doesn't, and is printed as it is.
 BEGINS = b'{"version":1,'
 OUTSIDE = re.compile(rb'<link rel="stylesheet" href="(?P<style>[^"]+)">|<script src="(?P<script>[^"]+)"></script>')
-PLACE = b'<script id="film" type="application/json">'
-# These end the program, and are to end this process in the same way.
-SIGNALS = (signal.SIGINT, signal.SIGTERM, signal.SIGHUP)
+PLACE, STORY = b'<script id="film" type="application/json">', b'<script id="story" type="application/json">'
 
 
 def contents(name: str) -> bytes:
@@ -32,18 +32,22 @@ def put_inside(link: re.Match[bytes]) -> bytes:
     return b"<script>\n" + contents(link["script"].decode()) + b"</script>"
 
 
-def page_of(film: bytes) -> bytes:
-    """The page of a film. In JSON `<` is in texts alone, and is written there so that it ends no element of the page."""
-    before, behind = OUTSIDE.sub(put_inside, contents("page.html")).split(PLACE)
-    return before + PLACE + film.replace(b"<", b"\\u003c") + behind
+def page_of(film: bytes, story: bytes = b"null") -> bytes:
+    """The page of a film, and of the story of its processes. In JSON `<` is in texts alone, and is written there so that it ends no
+    element of the page."""
+    page = OUTSIDE.sub(put_inside, contents("page.html"))
+    for place, text in ((PLACE, film), (STORY, story)):
+        before, behind = page.split(place)
+        page = before + place + text.replace(b"<", b"\\u003c") + behind
+    return page
 
 
-def end_as(status: int) -> NoReturn:
-    """Ends this process as a child ended, by its status or by its signal."""
-    if os.WIFSIGNALED(status):
-        signal.signal(os.WTERMSIG(status), signal.SIG_DFL)
-        os.kill(os.getpid(), os.WTERMSIG(status))
-    os._exit(os.waitstatus_to_exitcode(status))
+def told_of(film: bytes, lab: list[str], words: list[str]) -> bytes:
+    """The story of the film that the lab made of these words."""
+    # what asks the debugger is there only once there is a film
+    from nadzsumek.film.story import story_of
+
+    return json.dumps(story_of(json.loads(film), lab, words), separators=(",", ":")).encode()
 
 
 def print_whole(text: bytes) -> None:
@@ -56,25 +60,10 @@ def print_whole(text: bytes) -> None:
         sys.exit(6)
 
 
-def run_beside(start: Callable[[], NoReturn]) -> NoReturn:
-    """Has a child become the program, and prints the page of the film that it prints, or what else it prints."""
-    films, told = os.pipe()
-    # A signal that comes between these lines waits until it can be passed on.
-    signal.pthread_sigmask(signal.SIG_BLOCK, SIGNALS)
-    if (child := os.fork()) == 0:
-        signal.pthread_sigmask(signal.SIG_UNBLOCK, SIGNALS)
-        os.dup2(told, 1)
-        os.close(told)
-        os.close(films)
-        start()
-    os.close(told)
-    kept = {it: signal.signal(it, lambda number, _: os.kill(child, number)) for it in SIGNALS}
-    signal.pthread_sigmask(signal.SIG_UNBLOCK, SIGNALS)
-    with open(films, "rb") as it:
-        film = it.read()
-    status = os.waitpid(child, 0)[1]
-    for number, before in kept.items():
-        signal.signal(number, signal.SIG_IGN if before == signal.SIG_IGN else signal.SIG_DFL)
+def run_beside(start: Callable[[], NoReturn], lab: list[str], words: list[str]) -> NoReturn:
+    """Has a child become the program, and prints the page of the film that it prints, or what else it prints. `lab` is the command of
+    the lab, and the words are those behind `film`."""
+    film, status = begun(start, 1)
     if status == 0:
-        print_whole(page_of(film) if film.startswith(BEGINS) else film)
+        print_whole(page_of(film, told_of(film, lab, words)) if film.startswith(BEGINS) else film)
     end_as(status)

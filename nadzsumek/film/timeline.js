@@ -1,14 +1,51 @@
 "use strict";
-// Draws the time line: a column for each line of the record, a lane for the switch, each host and each node.
+// Draws the time line: a column for each line of the record, and for each piece of one in which the same process runs; a lane for the
+// switch, each host, each node, and each process of a node that ever had several.
 
-const lanes = [
-  "switch",
-  ...plan.hosts.map((user, number) => "host " + number + " " + plan.users[user]),
-  ...plan.nodes.map((_, number) => "node " + number),
-];
+// how many processes of a node have lanes
+const MOST_LANES = 24;
+const rows = [{ name: "switch" }, ...plan.hosts.map((user, number) => ({ name: "host " + number + " " + plan.users[user] }))];
+const nodeRow = [], processRow = plan.nodes.map(() => ({}));
+plan.nodes.forEach((_, number) => {
+  nodeRow.push(rows.length);
+  rows.push({ name: "node " + number });
+  const its = WHO[number].lanes.slice(0, MOST_LANES);
+  for (const lane of its.length > 1 ? its : []) {
+    processRow[number][lane] = rows.length;
+    rows.push({ name: "  " + laneName(number, lane), lane });
+  }
+});
 // the names are to the left of the columns, uncut
-const WIDE = 28, HIGH = 30, LEFT = Math.max(130, ...lanes.map((it) => 10 + Math.ceil(7.4 * it.length))), TOP = 30;
-const laneAt = (lane) => TOP + (lane + 1.5) * HIGH;
+const WIDE = 28, HIGH = rows.length > 12 ? 18 : rows.length > 8 ? 22 : 30, TOP = 30;
+const LEFT = Math.max(130, ...rows.map((it) => 10 + Math.ceil(7.4 * it.name.length)));
+const rowAt = (row) => TOP + (row + 0.5) * HIGH;
+const laneAt = (lane) => rowAt(lane < 0 ? 0 : lane < plan.hosts.length ? 1 + lane : nodeRow[lane - plan.hosts.length]);
+const HEIGHT = TOP + rows.length * HIGH;
+
+// The columns: a line of the record, and the first and the last frame of it or of a piece.
+const columns = [];
+(function cutLines() {
+  const ends = new Set(messages.map((it) => it[0]));
+  plan.nodes.forEach((_, number) => {
+    let before;
+    WHO[number].frames.forEach((frame, at) => {
+      const row = WHO[number].processes[at].find(runs), now = row && row[3];
+      if (now !== before) ends.add(frame);
+      before = now;
+    });
+  });
+  lines.forEach((_, number) => {
+    let from = firstFrame[number];
+    for (let frame = from; frame < lastFrame(number); frame += 1) {
+      if (!ends.has(frame)) continue;
+      columns.push({ number, from, to: frame });
+      from = frame + 1;
+    }
+    columns.push({ number, from, to: lastFrame(number) });
+  });
+})();
+const columnFroms = columns.map((it) => it.from);
+
 const short = (number) => (number < 1000 ? String(number) : number < 1e6 ? Math.floor(number / 1e3) + "k"
   : number < 1e9 ? Math.floor(number / 1e6) + "M" : Math.floor(number / 1e9) + "G");
 
@@ -51,22 +88,36 @@ function hostDrawn(svg, number, x, y) {
   if (isDone) svg.append(drawn("text", { x, y: y - 10, "text-anchor": "middle", class: "small" }, text));
 }
 
-function stepsDrawn(svg, line, x, y) {
-  const colour = isFault(line) ? "var(--fault)" : "var(--step)", size = line.times ? WIDE - 6 : 8;
-  svg.append(drawn("rect", { x: x - size / 2, y: y - 5, width: size, height: 10, rx: 2, fill: colour }));
-  if (line.times) svg.append(drawn("text", { x, y: y - 8, "text-anchor": "middle", class: "faint small" },
-    short(line.times)));
-  if (!isFault(line)) return;
-  svg.append(drawn("path", { d: `M${x} ${TOP}V${laneAt(lanes.length - 2) + HIGH / 2}`, stroke: colour,
-    "stroke-dasharray": "3 3" }));
+// The row of the process that runs in a column of Steps; that of its node if it has one alone.
+function runnerRow(column) {
+  const node = asked[column.number].number, running = runningAt(node, column.from - 1) ?? runningAt(node, column.to);
+  return processRow[node][running] ?? nodeRow[node];
+}
+
+function stepsDrawn(svg, column, x) {
+  const line = lines[column.number], isLast = column.to === lastFrame(column.number), y = rowAt(runnerRow(column));
+  const count = recordedAt(column.to) - recordedAt(column.from - 1);
+  const isFaulty = isFault(line) && isLast, colour = isFaulty ? "var(--fault)" : "var(--step)";
+  const size = count > 1 ? WIDE - 6 : 8;
+  svg.append(drawn("rect", { x: x - size / 2, y: y - 4, width: size, height: 8, rx: 2, fill: colour }));
+  if (count > 1) svg.append(drawn("text", { x, y: y - 6, "text-anchor": "middle", class: "faint small" }, short(count)));
+  for (const it of messagesAt(column.to)) messageDrawn(svg, it, x);
+  if (!isFaulty) return;
+  svg.append(drawn("path", { d: `M${x} ${TOP}V${HEIGHT}`, stroke: colour, "stroke-dasharray": "3 3" }));
   cross(svg, x, y, colour);
 }
 
-function lineDrawn(svg, number, x) {
-  const line = lines[number], { verb, byte } = asked[number], y = laneAt(laneOf(number));
-  if (verb === "move" && line.packet) packetDrawn(svg, number, x);
+// A message inside a node, from the process that sends to the one that receives.
+function messageDrawn(svg, [, node, from, to, name], x) {
+  const [first, second] = [from, to].map((it) => rowAt(processRow[node][it] ?? nodeRow[node]));
+  if (first !== second) arrow(svg, x + WIDE / 2 - 2, first, second, "var(--message)", name.slice(0, 8));
+}
+
+function lineDrawn(svg, column, x) {
+  const { number } = column, { verb, byte } = asked[number], y = laneAt(laneOf(number));
+  if (verb === "move" && lines[number].packet) packetDrawn(svg, number, x);
   else if (verb === "write" || verb === "read") hostDrawn(svg, number, x, y);
-  else if (verb === "step") stepsDrawn(svg, line, x, y);
+  else if (verb === "step") stepsDrawn(svg, column, x);
   else {
     const fill = verb === "config" ? "var(--switch)" : "var(--faint)";
     svg.append(drawn("rect", { x: x - 4, y: y - 4, width: 8, height: 8, fill }));
@@ -76,32 +127,34 @@ function lineDrawn(svg, number, x) {
 }
 
 function timeShown(frame) {
-  const width = Math.max(600, $("lanes").clientWidth), height = laneAt(lanes.length - 2) + HIGH / 2;
-  const count = Math.max(1, Math.floor((width - LEFT) / WIDE)), here = lineOf[frame];
-  const first = Math.max(0, Math.min(here - (count >> 1), lines.length - count));
-  const svg = drawn("svg", { width, height }), x = (number) => LEFT + (number - first) * WIDE + WIDE / 2;
-  if (here >= 0) svg.append(drawn("rect", { x: x(here) - WIDE / 2, y: 16, width: WIDE, height: height - 16,
+  const width = Math.max(600, $("lanes").clientWidth);
+  const count = Math.max(1, Math.floor((width - LEFT) / WIDE)), here = frame === 0 ? -1 : lastUpTo(columnFroms, frame);
+  const first = Math.max(0, Math.min(here - (count >> 1), columns.length - count));
+  const svg = drawn("svg", { width, height: HEIGHT }), x = (number) => LEFT + (number - first) * WIDE + WIDE / 2;
+  if (here >= 0) svg.append(drawn("rect", { x: x(here) - WIDE / 2, y: 16, width: WIDE, height: HEIGHT - 16,
     fill: "var(--mark)" }));
-  lanes.forEach((name, row) => {
-    svg.append(drawn("text", { x: 2, y: laneAt(row - 1) + 4 }, name));
-    svg.append(drawn("path", { d: `M${LEFT} ${laneAt(row - 1)}H${width}`, stroke: "var(--line)" }));
+  rows.forEach(({ name, lane }, row) => {
+    const text = drawn("text", { x: lane === undefined ? 2 : 14, y: rowAt(row) + 4,
+      class: lane === undefined ? "" : "faint" }, name.trim());
+    svg.append(text, drawn("path", { d: `M${LEFT} ${rowAt(row)}H${width}`, stroke: "var(--line)" }));
   });
-  for (let number = first; number < first + count && number < lines.length; number += 1) {
+  for (let number = first; number < first + count && number < columns.length; number += 1) {
     if (number % 5 === 0) {
       svg.append(drawn("text", { x: x(number) - WIDE / 2 + 2, y: 11, class: "faint small" },
-        told(recordedAt(lastFrame(number)))));
+        told(recordedAt(columns[number].to))));
       svg.append(drawn("path", { d: `M${x(number) - WIDE / 2} 4V16`, stroke: "var(--line)" }));
     }
-    lineDrawn(svg, number, x(number));
+    lineDrawn(svg, columns[number], x(number));
   }
   svg.addEventListener("click", (click) => {
     const number = first + Math.floor((click.offsetX - LEFT) / WIDE);
-    if (click.offsetX > LEFT && number < lines.length) go(lastFrame(number));
+    if (click.offsetX > LEFT && number < columns.length) go(columns[number].to);
   });
   return svg;
 }
 
-const LEGEND = [["--step", "\u25ac Steps, with their number"], ["--byte", "\u2193 a byte"],
+const LEGEND = [["--step", "\u25ac Steps, with their number"], ["--message", "\u2193 a message inside a node, with its channel"],
+  ["--byte", "\u2193 a byte"],
   ["--byte", "\u25bc \u25b2 a user's write and read"],
   ["--ack", "\u2193 an acknowledge"], ["--loss", "\u00d7 lost or dropped"], ["--fault", "\u00d7 a fault"],
     ["--switch", "\u25a0 a configuration byte"],

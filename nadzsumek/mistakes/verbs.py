@@ -30,6 +30,7 @@ NODE = Kind(r"\d+", 255, "the number of a node", "0", "NODE")
 PORT = Kind(r"\d+", 31, "the number of a port", "7", "PORT")
 FILE = Kind(r".+", 0, "a file", "hello.s", "FILE")
 OWN_FILE = FILE._replace(meaning="the file of your program", example="my.occ")
+NEW_FILE = FILE._replace(meaning="the name of a file", example="my.replay")
 EXERCISE = Kind(r"[a-z0-9][a-z0-9-]{0,63}", 0, "the name of an exercise", "sums", "EXERCISE")
 NUMBER = Kind(r"\d{1,9}", 0, "a number of what you have handed in", "1", "NUMBER")
 TEXT = Kind(r".+", 0, "a text", '"hello\\n"', '"TEXT"')
@@ -55,6 +56,9 @@ LOADING = (
     "and asks what to do",
 )
 CHECKING = ("it is tried on a fresh machine of its own, and yours stays as it is",)
+BY_LINE = ("below it are the lines of the programs that were loaded from here",)
+FILMING = ("with a file it is that file: film my.html",)
+DEBUGGING = ("there help lists the commands, and quit comes back",)
 SENDING = ("or numbers: send 0 word 5 -7, byte 1 2 or hex 0a0b; in quotes it is a text",)
 ROOMS = (
     "then rests if the machine rests, the bytes of its room that are used and that there are, and the same of its records",
@@ -69,10 +73,15 @@ USERS = {
     ),
     "send": Verb((HOST, TEXT), 'send 0 "hello\\n"', "gives a host the bytes of a text", more=SENDING),
     "collect": Verb((HOST,), "collect 0", "takes all bytes that came to the host"),
-    "why": Verb((NODE,), "why 0", "tells why a node waits, halted or runs on; why alone tells it of all nodes", 1),
+    "why": Verb(
+        (NODE,), "why 0", "tells why a node waits, halted or runs on; why alone tells it of all nodes", 1, BY_LINE
+    ),
     "restart": Verb(
         (), "restart", "makes your machine as it was opened, and gives its room back, if it is yours alone"
     ),
+    "film": Verb((NEW_FILE,), "film", "makes a page for a browser, which shows what your machine did", 1, FILMING),
+    "debug": Verb((), "debug", "goes back and on through what your machine did, line by line", more=DEBUGGING),
+    "record": Verb((NEW_FILE,), "record", "puts the record of your machine since its last restart into a file", 1),
     "exercises": Verb(
         (EXERCISE,), "exercises", "lists the exercises of your class, and what you have handed in; one with its task", 1
     ),
@@ -122,6 +131,8 @@ OF_SCRIPTS = ("config", "write", "boot", "poke", "peek", "collect", "reset", "lo
 SHORTHAND = ("load", "join", "send", "text")
 # Those whose last word is a file.
 OF_FILES = tuple(name for name, verb in USERS.items() if verb.kinds[-1:] in ((FILE,), (OWN_FILE,)))
+# Those that a terminal does itself with its user's record.
+OF_RECORD = ("record", "film", "debug")
 # Another word for a verb.
 ALIASES = {"exit": "quit"}
 # The verbs whose answers begin with a number of their lines.

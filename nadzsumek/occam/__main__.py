@@ -11,6 +11,7 @@ from __future__ import annotations
 import os
 import sys
 
+from ..mistakes.places import shown
 from .compiling import compiled
 from .core_text import text_of_core
 from .mistakes import WrongText
@@ -35,20 +36,20 @@ def main(words: list[str]) -> int:
     except OSError as error:
         print(f"{file}: {error.strerror}", file=sys.stderr)
         return NO_FILE
-    return show(text, form)
+    return show(file, text, form)
 
 
-def show(text: bytes, form: str) -> int:
-    """Shows a text in a form."""
+def show(file: str, text: bytes, form: str) -> int:
+    """Shows the text of a file in a form."""
     try:
         program, _, warnings = compiled(text)
     except WrongText as wrong:
-        print(*wrong.lines, sep="\n", file=sys.stderr)
+        print(shown(file, "\n".join(wrong.lines)), end="", file=sys.stderr)
         if form == "--json":
             print(unit_of(text))
         return WRONG_TEXT
     if warnings:
-        print(*warnings, sep="\n", file=sys.stderr)
+        print(shown(file, "\n".join(warnings)), end="", file=sys.stderr)
     if form == "--core":
         print(text_of_core(program), end="")
     elif form == "--json":

@@ -115,16 +115,24 @@ def run_lab(program: str, words: list[str]) -> NoReturn:
 
 
 def start(program: str, words: list[str]) -> NoReturn:
-    """Runs the lab with these words. The film that it prints becomes a page, unless the words ask for JSON. Programs are run and
-    checked here, by plans and scripts that are made for them, and editors are served."""
+    """Runs the lab with these words. The film that it prints becomes a page, unless the words ask for JSON, and what it says of a text
+    of occam has the form that editors know. Programs are run and checked here, by plans and scripts that are made for them, and
+    editors are served."""
     if SOCKET in os.environ:
         from nadzsumek.occam.answering import answer_many
 
         answer_many(os.environ.pop(SOCKET), functools.partial(start, program))
+    lab = [sys.executable, "-S", "-B", "-P", os.path.abspath(__file__), program]
     if words == ["dap"]:
         from nadzsumek.debugging.adapter import main as serve_editor
 
-        sys.exit(serve_editor([sys.executable, "-S", "-B", "-P", os.path.abspath(__file__), program]))
+        sys.exit(serve_editor(lab))
+    if words[:1] == ["debug"] and sys.stdin.isatty() and sys.stdout.isatty():
+        from nadzsumek.debugging.console import opened
+
+        if (console := opened(words[1:], lab)) is not None:
+            console.run()
+            sys.exit(0)
     if words[:1] == ["check"]:
         from nadzsumek.course.orders import own_check
 
@@ -133,10 +141,14 @@ def start(program: str, words: list[str]) -> NoReturn:
         from nadzsumek.run import main
 
         sys.exit(main(program, words[1:]))
+    if words[:1] == ["occam"]:
+        from nadzsumek.mistakes.places import run_told
+
+        run_told(functools.partial(run_lab, program, words), words[1:])
     if words[:1] == ["film"] and "--json" not in words:
         from nadzsumek.film.page import run_beside
 
-        run_beside(functools.partial(run_lab, program, words))
+        run_beside(functools.partial(run_lab, program, words), lab, words[1:])
     run_lab(program, words)
 
 

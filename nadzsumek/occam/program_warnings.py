@@ -12,7 +12,7 @@ from .outline import Node, Use, Uses, Way, outline
 
 # How many warnings are shown.
 MOST_WARNINGS = 20
-ONE_END, UNSET, UNUSED = 41, 42, 43
+ONE_END, UNSET, UNUSED, ALONE = 41, 42, 43, 52
 
 
 class Warning(NamedTuple):
@@ -55,6 +55,7 @@ def warnings_of(program: CoreProgram, unused: Iterable[tree.Name]) -> list[str]:
     found = [Warning(it.place, UNUSED, it.text, f"{it.text} is never used") for it in unused]
     found += one_ended(program, uses)
     found += unset(program, nodes, uses)
+    found += used_alone(program, nodes, uses)
     each: dict[tuple[Place, int, str], Warning] = {}
     for it in found:
         each.setdefault((it.place, it.number, it.name), it)
@@ -104,6 +105,55 @@ def one_end(declaration: Declaration, ends: Sequence[Ends]) -> str:
         is_array = isinstance(declaration.type, ArrayOf)
         return said if is_array else f"{said}. A channel at a link is placed: PLACE {name} AT link0.{way}"
     return ""
+
+
+# ---- channels that one process uses alone
+
+
+def used_alone(program: CoreProgram, nodes: list[Node], uses: list[Use]) -> list[Warning]:
+    """The channels by which only one process sends and receives: it waits for itself."""
+    components = components_around(nodes)
+    each: dict[int, tuple[list[Use], list[Use]]] = {}
+    for use in uses:
+        if use.way is Way.SENDS or use.way is Way.RECEIVES:
+            for word in range(use.first, use.first + use.words):
+                each.setdefault(word, ([], []))[use.way is Way.RECEIVES].append(use)
+    found = []
+    for declaration in program.declarations:
+        if declaration.name is None or declaration.place is None or not is_channel(declaration):
+            continue
+        for word in range(declaration.first, declaration.first + declaration.words):
+            sends, receives = each.get(word, ([], []))
+            if is_alone(nodes, components, sends, receives):
+                is_array = isinstance(declaration.type, ArrayOf)
+                name = f"{declaration.name}[{word - declaration.first}]" if is_array else declaration.name
+                lines = f"sends in line {sends[0].place.line} and receives in line {receives[0].place.line}"
+                said = f"by {name} a process waits for itself, since it {lines}. The two belong to components of a PAR"
+                found.append(Warning(declaration.place, ALONE, declaration.name, said))
+                break
+    return found
+
+
+def is_alone(nodes: list[Node], components: list[int], sends: list[Use], receives: list[Use]) -> bool:
+    """Whether a channel is known to be used both ways, and nowhere by two components of a PAR."""
+    if not sends or not receives or not all(it.is_known for it in (*sends, *receives)):
+        return False
+    around: dict[int, tuple[set[int], set[int]]] = {}
+    for way, its in enumerate((sends, receives)):
+        for use in its:
+            at = components[use.node]
+            while at:
+                around.setdefault(nodes[at].parent, (set(), set()))[way].add(at)
+                at = components[nodes[at].parent]
+    return not any(sent and received and len(sent | received) > 1 for sent, received in around.values())
+
+
+def components_around(nodes: list[Node]) -> list[int]:
+    """The component of a PAR, the innermost one, that each process is in or is; 0 if it is in none."""
+    around: list[int] = []
+    for index, node in enumerate(nodes):
+        around.append(index if node.role == "component" else around[node.parent] if index else 0)
+    return around
 
 
 # ---- variables that are read before something was put into them

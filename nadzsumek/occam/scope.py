@@ -11,6 +11,10 @@ from .mistakes import Mistake, Place, Refused, expected, is_near, quoted
 from .tree import DataType
 
 MOST_MISTAKES, MOST_PARTS = 20, 100_000
+# Words that write a text elsewhere, and what does it here.
+WRITERS = frozenset("print printf println puts write writeln echo cout".split())
+SENT_TEXT = 'A PROC sends a text: out.string ("hi", to), where to is a CHAN OF BYTE'
+SENT_NUMBER = "A PROC sends a number in digits: out.int (n, to), where to is a CHAN OF BYTE"
 LINK_NAMES = [f"link{it}.{way}" for way in ("out", "in") for it in range(4)]
 
 

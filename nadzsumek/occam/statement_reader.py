@@ -7,6 +7,7 @@ from . import tree
 from .declaration_reader import DeclarationReader
 from .mistakes import Place, expected, quoted
 from .reading import ACTIONS, CONDITION_BEFORE_INPUT, LINE_END, LINE_END_OR_OPERATOR, PROCESS, STEP
+from .scope import SENT_NUMBER, SENT_TEXT, WRITERS
 
 
 class StatementReader(DeclarationReader):
@@ -59,6 +60,8 @@ class StatementReader(DeclarationReader):
     def wrong_action(self) -> NoReturn:
         """Refuses a name with which nothing is done."""
         name = self.take()
+        if hint := hint_of_writing(name.text, self.kind):
+            raise expected(name.place, *PROCESS, quoted(name.text), hint)
         if self.kind not in (",", "IS", "wrong", "=") and (hint := self.hint_of_first_word(name.text)):
             raise expected(name.place, *PROCESS, quoted(name.text), hint)
         if self.kind == "IS":
@@ -120,3 +123,11 @@ class StatementReader(DeclarationReader):
         name, actuals = self.called(PROCESS)
         self.line_end()
         return tree.Instance(token.place, name, actuals)
+
+
+def hint_of_writing(word: str, behind: str) -> str:
+    """How a text or a number is sent, where a word is there that does it elsewhere, or a PROC of the prelude without parentheses."""
+    if word.lower() in WRITERS:
+        return SENT_TEXT if behind == "string" else SENT_NUMBER
+    is_call = word in ("out.string", "out.int") and behind not in ("end", "wrong", ":=", "=")
+    return f"The values of a PROC are in parentheses: {word} (.., to)" if is_call else ""

@@ -1,6 +1,7 @@
 """Names and types of expressions, tables, types, variables and channels."""
 from __future__ import annotations
 
+import re
 from abc import ABC, abstractmethod
 from collections.abc import Callable, Iterator, Sequence as Row
 from contextlib import contextmanager
@@ -12,6 +13,8 @@ from .constants import constant_value, error_in, signed
 from .core import ArrayOf, ChannelOf, CoreArray, ElementKind, Folds, Number, is_number, kind_of
 from .mistakes import Place, Refused, expected, quoted
 from .scope import (
+    SENT_TEXT,
+    WRITERS,
     LINK_NAMES,
     Access,
     Around,
@@ -210,6 +213,10 @@ class Values(ABC):
             return "A PROC is known after its :, so it can't call itself"
         if text in self.ended:
             return f"It is known only in the process after its declaration in line {self.ended[text]}"
+        if text.lower() in WRITERS:
+            return SENT_TEXT
+        if re.fullmatch(r"(?i)link[0-3]", text):
+            return f"The channels of a link have names of their own: {text.lower()}.out and {text.lower()}.in"
         near = self.scope.nearest(text)
         if near is None:
             return ""

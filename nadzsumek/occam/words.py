@@ -15,6 +15,7 @@ KEYWORDS = frozenset(
 SIGNS = OPERATORS | frozenset(": :: ( ) [ ] , := ? ! ~ ; &".split())
 # A statement whose last word is one of these goes on in the next line.
 GOES_ON = OPERATORS | {",", ":=", "IS", "FOR"}
+BYTE_ORDER_MARK = "\ufeff"
 # Keywords that hardly are meant where a name in small letters is.
 NAMES_TOO = frozenset(("ANY", "RESULT"))
 DIRECTIVES = {"#USE", "#INCLUDE", "#COMMENT", "#OPTION", "#PRAGMA"}
@@ -246,5 +247,8 @@ def unreadable(line: str, at: int, place: Place) -> Mistake:
     if line[at] == "\t":
         return expected(place, 3, "blanks", "a tab")
     letter = line[at]
+    if letter == BYTE_ORDER_MARK:
+        hint = "An editor puts this byte order mark before a file: save it as UTF-8 without one"
+        return expected(place, 1, "printed characters of ASCII outside comments", quoted(letter), hint)
     met = f"the byte {ord(letter) - 0xDC00:02x}" if "\udc80" <= letter <= "\udcff" else quoted(letter)
     return expected(place, 1, "printed characters of ASCII outside comments", met)

@@ -13,14 +13,15 @@ from nadzsumek import Farm, NoFarm, NotAnswered
 from nadzsumek.results import plain, result_of
 from nadzsumek.verbs import Question
 
-from ..mistakes.verbs import Wrong, help_lines
+from ..mistakes.verbs import OF_RECORD, Wrong, check, help_lines
 from .answers import Loading, meaning, refusal, shortfall, with_meaning
 from .connections import NO_FARM, REFUSED
 from .escapes import escaped
 from .folder import Refused
 from .loads import LOOKING, Hindered, check_line, remark_on
-from .orders import lines_of, split, table_of
+from .orders import lines_of, split, table_of, text_of
 from .ports import drivers_in, joins_told, wiring_of
+from .taking import Taking
 
 if TYPE_CHECKING:
     from nadzsumek.farm import User
@@ -37,7 +38,7 @@ class Asking:
 
     def __init__(self, folder: str, user: User, is_json: bool, is_checked: bool) -> None:
         self.folder, self.user, self.is_json, self.is_checked, self.status = folder, user, is_json, is_checked, 0
-        self.ports, self.wiring = user.ports, wiring_of(folder, user.name)
+        self.ports, self.wiring, self.taking = user.ports, wiring_of(folder, user.name), Taking(folder, user.name)
 
     def show(self, texts: list[str], **fields: object) -> None:
         """Prints lines of text, or in JSON an object with these fields."""
@@ -82,18 +83,43 @@ class Asking:
         for asked, answers in zip(sent, self.user.do(Question(sent + more, lambda it: it, strict=False))):
             self.show_answer(line, asked, answers, loading)
 
+    def show_lines(self, line: str, texts: list[str]) -> None:
+        """Prints what the terminal says by itself of a line; in JSON only if there is something."""
+        if texts:
+            self.show(texts, line=line, lines=texts)
+
+    def after(self, line: str, first: str, words: list[str]) -> None:
+        """What is said, or kept, once a line is answered."""
+        if first == "load":
+            self.taking.loaded(self.wiring, int(words[0]), text_of(words[0], words[1]))
+        elif first == "why":
+            self.show_lines(line, self.taking.waits(int(words[0]) if words else None))
+
+    def take(self, line: str, first: str, words: list[str]) -> None:
+        """Does one of the verbs of records."""
+        if first == "debug":
+            raise Wrong("debug is for a terminal. Try: record, and then lab debug with its file")
+        self.show_lines(line, self.taking.do(first, words[0] if words else None))
+
     def do(self, line: str) -> bool:
         """Does one line; false if it is the last."""
         try:
-            first, _, words = split(self.user.name, line, self.ports)
+            first, verb, words = split(self.user.name, line, self.ports)
             if first == "help":
                 texts = help_lines(table_of(self.user.name, self.ports), words[0] if words else None)
                 self.show(texts, line=line, help=texts)
+            elif first in OF_RECORD:
+                check(first, verb, words)
+                self.take(line, first, words)
             elif first != "quit":
                 if first in LOOKING and self.is_checked:
                     lines_of(self.user.name, line, self.ports)
                     check_line(self.folder, self.user.name, self.wiring, first, words)
+                before, self.status = self.status, 0
                 self.ask(line)
+                if not self.status:
+                    self.after(line, first, words)
+                self.status = max(self.status, before)
             return first != "quit"
         except Hindered as hindered:
             self.show_fault(line, hindered.word if first == "load" else LOST, f"{hindered}")

@@ -16,6 +16,7 @@ from typing import TYPE_CHECKING, Any, NamedTuple
 from nadzsumek.occam.asking import BOUNDED
 
 from .sheets import person_of
+from ..mistakes.places import said_in, sentence
 from .escapes import escaped
 from .exercises import LANGUAGES, MOST_STEPS, OWN, OWN_FOLDER, exercise_in, is_own
 from .folder import Refused, build, program, put_whole
@@ -176,7 +177,8 @@ def compiled(exercise: Exercise, own: dict[str, str], room: str) -> dict[str, st
                 status, _, told = lab(room, "assemble", "--listing", text=it.read())
         if status != 0:
             where = f"{file.removeprefix(OWN_FOLDER)}: " if file not in (OWN + OCCAM, OWN + ASSEMBLY) else ""
-            raise Refused(f"{where}{told.partition(LINE_END)[0] or 'it can not be assembled'}")
+            said = [sentence(it) for it in said_in(file, told)] if file.endswith(OCCAM) else told.splitlines()
+            raise Refused(f"{where}{said[0] if said else 'it can not be assembled'}")
     return files
 
 

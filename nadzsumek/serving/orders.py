@@ -10,11 +10,14 @@ from typing import TYPE_CHECKING
 
 from ..mistakes.elsewhere import BY_WORD, meant
 from ..mistakes.nearness import nearest
+from ..mistakes.places import shown
 from ..mistakes.verbs import (
     ALIASES,
     ALL,
     FILE,
+    NEW_FILE,
     OF_FILES,
+    OF_RECORD,
     OPERATORS,
     OWN_FILE,
     SENTENCE,
@@ -61,19 +64,21 @@ def split(name: str, line: str, ports: Ports | None = None) -> tuple[str, Verb, 
         raise Wrong(f"there is no verb {first!r}. load {table['load'].meaning}. Try: {load}")
     verb = find(table, first)
     most = len(verb.kinds)
-    if verb.kinds and verb.kinds[-1] in (TEXT, FILE, OWN_FILE, SENTENCE):
+    if verb.kinds and verb.kinds[-1] in (TEXT, FILE, OWN_FILE, NEW_FILE, SENTENCE):
         words = line.split(None, most)
     return first, verb, [it.strip() for it in words[1:]]
 
 
 def lines_of(name: str, line: str, ports: Ports | None = None) -> list[str]:
-    """The lines that a line asks for, none for `help` and `quit`, which the terminal does itself."""
+    """The lines that a line asks for, none for `help`, `quit` and those of records, which the terminal does itself."""
     first, verb, words = split(name, line, ports)
     if first in ALL:
         return []
     if first == "load" and words and not words[0].isdigit():
         raise Wrong(f"load wants the number of a host before the file. Try: {load_of(' '.join(words), ports)}")
     check(first, verb, words)
+    if first in OF_RECORD:
+        return []
     if first == "load":
         return loading(name, words[0], words[1])
     if first in OF_FILES:
@@ -149,6 +154,13 @@ def handing(first: str, exercise: str, file: str) -> str:
     return f"{first} {exercise} {os.path.splitext(path)[1][1:]} {content.hex()}"
 
 
+def said_of(path: str, file: str, told: str) -> str:
+    """What the lab says of the text in a file, by the name that was given for it."""
+    said = told if path.endswith(OCCAM) else shown(os.path.abspath(path), told).rstrip("\n")
+    said = said.replace(f"{os.path.abspath(path)}:", f"{file}:")
+    return said if said.startswith(file) else f"{file}: {said}"
+
+
 def translated(path: str, *words: str) -> tuple[list[str] | None, str]:
     """The lines that `lab` prints of a program, which is in occam if its file's name says so: its code, or what the words ask
     for. Or what `lab` says is wrong."""
@@ -159,9 +171,14 @@ def translated(path: str, *words: str) -> tuple[list[str] | None, str]:
     return done.stdout.decode().splitlines() if done.returncode == 0 else None, told
 
 
+def text_of(host: str, file: str) -> str:
+    """The path of the text that a `load` loads."""
+    return found(file, f"load {host}", examples())
+
+
 def loading(name: str, host: str, file: str) -> list[str]:
     """The lines that boot a program: its code, or pokes and a jump if it is too long for a boot."""
-    path = found(file, f"load {host}", examples())
+    path = text_of(host, file)
     try:
         build("connect", "lab")
         code, told = translated(path)
@@ -171,5 +188,5 @@ def loading(name: str, host: str, file: str) -> list[str]:
     except (OSError, Refused) as error:
         raise Wrong(f"{file} can't be {'compiled' if path.endswith(OCCAM) else 'assembled'}: {error}") from None
     if not lines:
-        raise Wrong(f"{file}: {told or 'lab was broken off'}")
+        raise Wrong(said_of(path, file, told) if told else f"{file}: lab was broken off")
     return [line.removeprefix(f"{name} ") for line in lines]

@@ -25,6 +25,12 @@ def records_of(records: str, name: str) -> list[str]:
     return [os.path.join(records, numbers[it]) for it in sorted(numbers)]
 
 
+def number_of(path: str) -> int:
+    """The number of a record among those of its domain."""
+    found = re.search(r"\.(\d+)\.replay$", path)
+    return int(found[1]) if found else 1
+
+
 def pieces_from_the_end(file: int) -> Iterator[bytes]:
     """The lines of a file in pieces of some lines, the last ones first. A record may be cut off meanwhile."""
     at, rest = os.fstat(file).st_size, b""

@@ -38,6 +38,7 @@ from .folder import (
     socket_path,
 )
 from .replays import REPLAYED, REPLAYING, Replay
+from .own_record import Given
 from .ports import Wiring, found_in, ports_told, users_in, wiring_in
 from .reports import Reports, open_streams
 from .rooms import RECORD_ROOM, ROOM, Needed, add_bounds, bounds_in, words_of_bounds
@@ -91,6 +92,7 @@ class Server:
         self.wirings: dict[str, Wiring] = {}
         self.course = Course(self.folder.path)
         self.watches = Watches(self)
+        self.given = Given(self.folder.records, lambda: self.plan)
 
     def current_live(self) -> running.Live:
         """The run of `live` that is there once the farm is up."""
@@ -193,8 +195,8 @@ class Server:
         if speaker.asks_ports(text):
             self.say_ports(speaker, asked)
             return
-        if speaker.asks_course(text):
-            self.course.answer(speaker, asked)
+        if beside := self.course if speaker.asks_course(text) else self.given if speaker.asks_record(text) else None:
+            beside.answer(speaker, asked)
             return
         speaker.sent(*self.current_live().say(speaker.line(text)), asked)
 
@@ -440,6 +442,7 @@ class Server:
         """Takes the sockets away and lets the clients read what they were told."""
         self.kill()
         await self.course.end()
+        await self.given.end()
         if self.is_stopping:
             self.folder.mark_stopped()
         self.folder.remove_new_plan()

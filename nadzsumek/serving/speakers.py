@@ -44,6 +44,8 @@ USERS = b"!users\n"
 TELL = b"!tell "
 # A user's line that `serve` answers by itself, by what the words of the switch say of the user's own ports.
 PORTS = b"ports"
+# A user's line that `serve` answers by itself too, by the record of the user's domain.
+RECORD = b"record"
 # What begins so behind a user's name answers no line: `live` says it by itself, as soon as there is something to say.
 NOTE = b"note "
 # What is told of a line that wasn't answered, before the line.
@@ -125,6 +127,10 @@ class Speaker:
     def asks_ports(self, text: bytes) -> bool:
         """Whether a line asks which ports are joined."""
         return text.removesuffix(b"\r") == PORTS
+
+    def asks_record(self, text: bytes) -> bool:
+        """Whether a line asks for the record."""
+        return text.removesuffix(b"\r").split(b" ")[0] == RECORD
 
     def asks_course(self, text: bytes) -> bool:
         """Whether a line asks something about exercises."""
@@ -240,6 +246,9 @@ class Operator(Speaker):
         return line.removeprefix(TELL) if line.startswith(TELL) else None
 
     def asks_ports(self, _: bytes) -> bool:
+        return False
+
+    def asks_record(self, _: bytes) -> bool:
         return False
 
     def asks_course(self, _: bytes) -> bool:

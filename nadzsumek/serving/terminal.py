@@ -15,7 +15,7 @@ import threading
 import time
 
 from ..course import telling
-from ..mistakes.verbs import Wrong, goes_on, help_lines
+from ..mistakes.verbs import OF_RECORD, Wrong, check, goes_on, help_lines
 from .answers import Due, Loading, refusal, with_meaning
 from .completion import complete_with
 from .connections import NO_FARM, REFUSED, opened
@@ -23,14 +23,17 @@ from .escapes import escaped, set_errors
 from .folder import OPERATOR, Refused
 from .kept import place_of
 from .loads import COLLECTING, LOOKING, Hindered, check_line, remark_on
-from .orders import lines_of, split, table_of
+from .orders import lines_of, split, table_of, text_of
 from .ports import drivers_in, joins_told, ports_of, wiring_of
+from .taking import Taking
 from .versions import add_version
 
 HISTORY = os.path.expanduser("~/.nadzsumek_history")
 MOST_HISTORY = 1000
 # How long the next line waits for the answers to the line before it: at a prompt, and if lines come from a file.
 PROMPT_SECONDS, FILE_SECONDS = 0.5, 60
+# How long the lines of a program wait at a prompt for what `why` says of its node.
+WHY_SECONDS = 5
 # How long the operator waits until the farm that he stops has ended.
 STOP_SECONDS = 60
 # So many lines of a `load` are sent at once. Ctrl-C leaves out those that follow.
@@ -59,11 +62,12 @@ class Terminal:
     def __init__(self, folder: str, name: str, is_person: bool, is_checked: bool) -> None:
         self.stream, self.folder, self.name, self.is_person = opened(folder, name), folder, name, is_person
         self.ports, self.wiring, self.is_checked = ports_of(folder, name), wiring_of(folder, name), is_checked
+        self.taking = Taking(folder, name)
         self.due: collections.deque[Due] = collections.deque()
         self.status, self.stops, self.is_unread = 0, False, False
         self.news, self.has_ended, self.at_prompt = threading.Condition(), False, False
         self.interrupts, self.is_sending, self.is_noticed = 0, False, threading.Event()
-        self.prompt, self.answer = f"{escaped(name)}> ", ""
+        self.prompt, self.answer, self.is_done = f"{escaped(name)}> ", "", False
         self.exercises: set[str] = set()
         self.reader = threading.Thread(target=self.read, daemon=True)
         self.reader.start()
@@ -106,9 +110,9 @@ class Terminal:
                 for text in joins_told(answer, self.wiring):
                     self.show(text)
             if due and not goes_on(answer):
-                self.answer = answer
+                self.answer, self.is_done = answer, not refusal(due.line, answer)
                 self.due.remove(due)
-                if not self.is_person and refusal(due.line, answer):
+                if not self.is_person and not self.is_done:
                     self.status = REFUSED
                 self.news.notify_all()
 
@@ -128,21 +132,57 @@ class Terminal:
 
     def do(self, line: str) -> bool:
         """Does one line; false if it is the last."""
-        first, _, words = split(self.name, line, self.ports)
+        first, verb, words = split(self.name, line, self.ports)
         self.stops = first == "stop"
         if first == "quit":
             return False
         if first == "help":
             for text in help_lines(table_of(self.name, self.ports), words[0] if words else None):
                 self.show(text)
+        elif first in OF_RECORD:
+            check(first, verb, words)
+            self.settle(FILE_SECONDS)
+            self.take(first, words)
         else:
             lines = lines_of(self.name, line, self.ports)
             self.answer = ""
             if first not in LOOKING or not self.is_checked or self.may_send(first, words):
                 self.send(lines)
-            if first in COLLECTING and self.is_checked:
-                self.remark()
+                self.after(first, words)
         return True
+
+    def after(self, first: str, words: list[str]) -> None:
+        """What is said, or kept, once a line of some verbs is answered."""
+        if first in COLLECTING and self.is_checked:
+            self.remark()
+        elif first == "why" and self.taking.texts.all():
+            self.settle(WHY_SECONDS if self.is_person else FILE_SECONDS)
+            for text in self.taking.waits(int(words[0]) if words else None) if self.answer == "why end" else []:
+                self.show(text)
+        elif first == "load":
+            self.settle(FILE_SECONDS)
+            if self.answer and self.is_done:
+                self.taking.loaded(self.wiring, int(words[0]), text_of(words[0], words[1]))
+
+    def take(self, first: str, words: list[str]) -> None:
+        """Does one of the verbs of records."""
+        if first != "debug":
+            for text in self.taking.do(first, words[0] if words else None):
+                self.show(text)
+            return
+        # it takes a while to load
+        from ..debugging.console import look_through  # pylint: disable=import-outside-toplevel
+
+        def leave(*_: object) -> None:
+            self.is_noticed.set()
+            raise KeyboardInterrupt
+
+        with self.taking.with_programs() as record:
+            before = signal.signal(signal.SIGINT, leave)
+            try:
+                look_through(record)
+            finally:
+                signal.signal(signal.SIGINT, before)
 
     def remark(self) -> None:
         """Says why no byte has come, if that was the answer and a byte was lost."""

@@ -11,7 +11,8 @@ import time
 from typing import TYPE_CHECKING, Any, NamedTuple
 
 from ..failures import FarmError
-from ..mistakes.verbs import ALL, OF_FILES, Wrong, help_lines
+from ..mistakes.places import said_in
+from ..mistakes.verbs import ALL, OF_FILES, OF_RECORD, Wrong, help_lines
 from ..results import Rest
 from ..serving.answers import with_meaning
 from ..serving.orders import lines_of, split, table_of
@@ -40,7 +41,7 @@ AWAY_SECONDS, TELL_SECONDS = 1.0, 0.2
 MOST_STEPS, WHY_SECONDS, MOST_RECORD = 50_000_000, 5, 8 << 20
 # How many bytes are sent to a program by one run, and how many of what came are shown.
 MOST_SENT, MOST_SHOWN = 4096, 4096
-# What is wrong with a text, as the lab says it: the place, and what follows it.
+# What is wrong with a text of assembly, as the lab says it: the place, and what follows it.
 MISTAKE = re.compile(r"line (\d+)(?:, column (\d+))?: (.*)")
 # What is said of a node that has another program than the one that is named.
 OTHER_CODE = "has other code than its program"
@@ -75,13 +76,14 @@ class Mistaken(Exception):
 
 def mistakes_of(told: str) -> list[Answer]:
     """What is wrong with a text, each with its line and column if it has a place."""
+    path = next((it.file() for it in (Program("occ", ""), Program("s", "")) if it.file() in told), "")
     found = []
-    for line in (it.removeprefix("program.occ: ").removeprefix("program.s: ") for it in told.splitlines() if it):
-        place = MISTAKE.fullmatch(line)
+    for it in said_in(path, told):
+        place = MISTAKE.fullmatch(it.text) if it.line is None else None
         if place:
             found.append({"line": int(place[1]), "column": int(place[2] or 1), "text": place[3]})
         else:
-            found.append({"line": None, "column": None, "text": line})
+            found.append({"line": it.line, "column": it.column, "text": it.text})
     return found
 
 
@@ -267,6 +269,8 @@ class Desk:
                 return {"lines": help_lines(self.verbs(user.ports), words[0] if words else None)}
             if first in ALL:
                 raise Wrong(f"{first} is for a terminal: close this page instead")
+            if first in OF_RECORD:
+                raise Wrong(f"{first} is for a terminal: this page shows all of it")
             lines, wiring = lines_of(self.name, line, user.ports), self.wiring()
             answers: list[list[str]] = await user.do(Question(lines, lambda it: it, strict=False))
             told = [one for asked, answer in zip(lines, answers) for it in answer for one in with_meaning(asked, it)]

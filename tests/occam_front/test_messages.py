@@ -37,6 +37,18 @@ MISTAKES = {
     "WHLE TRUE\n  SKIP\n": 'line 1, column 1: fault 4: expected a process, not "WHLE". Is it WHILE?',
     "INT number:\nnumbr := 1\n": 'line 2, column 1: fault 16: expected a name that is declared, not "numbr". Is it number (line 1)?',
     "INT x:\nx := 2147483647 + 1\n": "line 2, column 6: fault 23: expected a constant that has a value, not an overflow",
+    "\ufeffSKIP\n": 'line 1, column 1: fault 1: expected printed characters of ASCII outside comments, not "\\u{feff}". An '
+    "editor puts this byte order mark before a file: save it as UTF-8 without one",
+    "CHAN OF BYTE c:\nPLACE c AT link0:\nc ! 1\n": 'line 2, column 12: fault 16: expected a name that is declared, not "link0". '
+    "The channels of a link have names of their own: link0.out and link0.in",
+    'PRINT "hi"\n': 'line 1, column 1: fault 4: expected a process, not "PRINT". A PROC sends a text: out.string ("hi", to), where to '
+    "is a CHAN OF BYTE",
+    'print ("hi")\n': 'line 1, column 1: fault 16: expected a name that is declared, not "print". A PROC sends a text: '
+    'out.string ("hi", to), where to is a CHAN OF BYTE',
+    "print n\n": 'line 1, column 1: fault 4: expected a process, not "print". A PROC sends a number in digits: out.int (n, to), where to '
+    "is a CHAN OF BYTE",
+    "out.int n, to\n": 'line 1, column 1: fault 4: expected a process, not "out.int". The values of a PROC are in parentheses: '
+    "out.int (.., to)",
     "TIMER t:\n": "line 1, column 1: fault 5: TIMER is left out here. The farm's processors have no timers",
 }
 
@@ -53,6 +65,18 @@ WARNINGS = {
         "line 1, column 13: warning 41: nobody receives from c, which is sent to in line 2. "
         "A channel at a link is placed: PLACE c AT link0.out"
     ],
+    # what one process alone sends and receives never comes, wherever the two stand in it
+    "CHAN OF INT c:\nINT x:\nSEQ\n  c ! 1\n  c ? x\n": [
+        "line 1, column 13: warning 52: by c a process waits for itself, since it sends in line 4 and receives in line 5. "
+        "The two belong to components of a PAR"
+    ],
+    "[2]CHAN OF INT c:\nINT x, y:\nPAR\n  c[0] ! 1\n  SEQ\n    c[0] ? x\n    WHILE x > 0\n      c[1] ! 2\n    c[1] ? y\n": [
+        "line 1, column 16: warning 52: by c[1] a process waits for itself, since it sends in line 8 and receives in line 9. "
+        "The two belong to components of a PAR"
+    ],
+    "CHAN OF INT c:\nINT x:\nPAR\n  c ! 1\n  c ? x\n": [],
+    "CHAN OF INT c:\nINT x:\nPAR\n  SEQ\n    c ! 1\n    c ! 2\n  SEQ\n    c ? x\n    c ? x\n": [],
+    "[2]CHAN OF INT c:\nINT x:\nSEQ i = 0 FOR 2\n  SEQ\n    c[i] ! 1\n    c[i] ? x\n": [],
     "PROTOCOL p IS INT; INT:\nSKIP\n": ["line 1, column 10: warning 43: p is never used"],
     "INT FUNCTION f () IS 1:\nSKIP\n": ["line 1, column 14: warning 43: f is never used"],
     # in a loop something may come from an earlier turn

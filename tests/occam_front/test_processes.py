@@ -141,12 +141,13 @@ def shown(tmp_path: Path) -> Show:
     return show
 
 
-def test_the_command_shows_core_unit_and_mistakes(show: Show) -> None:
+def test_the_command_shows_core_unit_and_mistakes(show: Show, tmp_path: Path) -> None:
+    path = tmp_path / "text.occ"
     ended = show("INT x, y:\nx := 1\n")
     assert (ended.returncode, ended.stdout) == (0, "INT x, y:\nx := 1\n")
-    assert ended.stderr == "line 1, column 8: warning 43: y is never used\n"
+    assert ended.stderr == f"{path}:1:8: warning 43: y is never used\n    INT x, y:\n           ^\n"
     assert json.loads(show("SKIP\n", "--json").stdout)["processes"] == ["Skip"]
     ended = show("x := 1\n", "--check")
     assert (ended.returncode, ended.stdout) == (4, "")
-    assert ended.stderr == 'line 1, column 1: fault 16: expected a name that is declared, not "x"\n'
+    assert ended.stderr == f'{path}:1:1: fault 16: expected a name that is declared, not "x"\n    x := 1\n    ^\n'
     assert show("SKIP\n", "--other").returncode == 2
