@@ -121,7 +121,8 @@ def class_of_two(root: Root) -> None:
         True,
     )
     assert (
-        root.shell("grep -c '^The user.s guide: /usr/share/doc/nadzsumek/guides/USER.html$' one/sheets/ada.txt") == "1\n"
+        root.shell("grep -c '^The user.s guide: /usr/share/doc/nadzsumek/guides/USER.html$' one/sheets/ada.txt")
+        == "1\n"
     )
 
 
