@@ -142,7 +142,8 @@ def test_nothing_answered_is_lost(kept: Kept) -> None:
     def ports() -> str:
         return asked("/line", line="ports").get("lines", [""])[0]
 
-    for at, kill in enumerate((kept.site, lambda: child_of(kept.lock(1)), lambda: kept.lock(1))):
+    kills: tuple[Callable[[], int], ...] = (kept.site, lambda: child_of(kept.lock(1)), lambda: kept.lock(1))
+    for at, kill in enumerate(kills):
         line, told = ("join 0 1", "ports 0:1 1:0") if at % 2 == 0 else ("config 0500", "ports 0:- 1:0")
         asked("/text", kind="occ", text=f"-- {at}\nSKIP\n")
         assert asked("/line", line=line)["lines"][0] == "config -"
