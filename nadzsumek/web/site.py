@@ -278,13 +278,16 @@ class Site:
             raise web.HTTPBadRequest(text="the request isn't as the page sends it\n") from None
 
     async def run(self, desk: Desk, asked: dict[str, Any]) -> dict[str, Any]:
-        """Keeps the text, and runs it."""
-        await self.keep(desk, asked)
-        async with self.turn(desk):
-            try:
-                return await desk.run(program_of(asked), asked["send"])
-            except Wrong as wrong:
-                return {"error": f"{wrong}"}
+        """Keeps the text, and runs it meanwhile; the answer is given when both are done."""
+        program = program_of(asked)
+        kept = asyncio.ensure_future(self.keep(desk, asked))
+        try:
+            async with self.turn(desk):
+                return await desk.run(program, asked["send"])
+        except Wrong as wrong:
+            return {"error": f"{wrong}"}
+        finally:
+            await kept
 
     async def mistakes(self, desk: Desk, asked: dict[str, Any]) -> dict[str, Any]:
         """What is wrong with a text that is being written."""
