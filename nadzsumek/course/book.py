@@ -105,10 +105,9 @@ class Book:
         with self.base:
             yield
 
-    def who(self, secret: str) -> str | None:
-        """Whose secret this is: a student's name, or the teacher's; none if it is nobody's."""
-        row = self.base.execute("SELECT name FROM holder WHERE secret = ?", [hashed(secret)]).fetchone()
-        return None if row is None else str(row[0])
+    def secrets(self) -> dict[bytes, str]:
+        """What is kept of each secret, with whose it is."""
+        return {bytes(secret): str(name) for name, secret in self.base.execute("SELECT name, secret FROM holder")}
 
     def holders(self) -> set[str]:
         """Those who have a secret."""

@@ -361,7 +361,7 @@ class Desk:
                     async with self.running:
                         pass
                     await self.tell(await self.state())
-                except (FarmError, OSError) as error:
+                except (FarmError, OSError, ValueError, LookupError) as error:
                     await self.tell({"error": f"{error}"})
                     if user is not None:
                         user.writer.close()

@@ -9,12 +9,13 @@ import os
 import sqlite3
 import time
 from collections.abc import AsyncIterator, Awaitable, Callable, Coroutine, Iterator
+from concurrent.futures import ThreadPoolExecutor
 from functools import partial
-from typing import Any
+from typing import Any, TypeVar
 
 from aiohttp import web
 
-from ..course.book import MOST_TEXT, TEACHER, Book
+from ..course.book import MOST_TEXT, TEACHER, Book, hashed
 from ..course.judging import Judge
 from ..course.telling import REFUSED
 from ..farm import Farm
@@ -40,6 +41,8 @@ LOOK_SECONDS, BEAT_SECONDS = 1.0, 15
 # How many pages of one student hear what the machine does, how many programs of one student may wait, and how many students' programs
 # are run at the same time: they mostly wait for the farm.
 MOST_HEARING, MOST_WAITING, MOST_RUNS = 4, 8, 16
+# How often it is read again whose secrets there are, and the file with the teacher's address.
+HOLDERS_SECONDS, TEACHER_SHEET = 5.0, "teacher.page.txt"
 # What the debugger is asked.
 HOWS = ("first", "last", "next", "back", "next line", "back line")
 # Nothing is loaded from elsewhere, and no page of another site shows these.
@@ -63,6 +66,7 @@ STRANGER = (
     "This page wants the address on your sheet: open that first. If it was made again since, ask for the new one.\n"
 )
 
+It = TypeVar("It")
 Handler = Callable[[web.Request], Awaitable[web.StreamResponse]]
 # What a page asks with a body is answered by such a call.
 Work = Callable[[Desk, dict[str, Any]], Awaitable[dict[str, Any]]]
@@ -125,6 +129,10 @@ class Site:
         # called when the class has changed: who came since gets an address
         self.came: Callable[[], None] = lambda: None
         self.teacher = Teacher(self)
+        # the file of the class as the thread has it, and whose secrets there are
+        self.pool = ThreadPoolExecutor(1)
+        self.own_book: Book | None = None
+        self.holders, self.marks, self.holders_at = dict[bytes, str](), tuple[int, ...](), 0.0
 
     def application(self) -> web.Application:
         app = web.Application(middlewares=[self.guarded], client_max_size=MOST_BODY)
@@ -160,12 +168,39 @@ class Site:
         for desk in self.desks.values():
             await desk.close()
         self.labs.close()
+        self.pool.shutdown()
         self.book.close()
+
+    async def booked(self, work: Callable[[Book], It]) -> It:
+        """What a work answers that is given the file of the class, in a thread of its own: the disk may take its time."""
+
+        def done() -> It:
+            if self.own_book is None:
+                self.own_book = Book(self.course)
+            return work(self.own_book)
+
+        return await asyncio.get_running_loop().run_in_executor(self.pool, done)
+
+    async def who(self, secret: str) -> str | None:
+        """Whose secret this is. What the file says of that is read again when an address or the class was written, and now and then."""
+        marks = tuple(self.written(it) for it in ("sheets", TEACHER_SHEET, CLASS))
+        now = time.monotonic()
+        if marks != self.marks or now > self.holders_at + HOLDERS_SECONDS:
+            self.holders = await self.booked(lambda book: book.secrets())
+            self.marks, self.holders_at = marks, now
+        return self.holders.get(hashed(secret))
+
+    def written(self, name: str) -> int:
+        """When a file of the class was written last, or a folder changed."""
+        try:
+            return os.stat(os.path.join(self.course, name)).st_mtime_ns
+        except OSError:
+            return 0
 
     @web.middleware
     async def guarded(self, request: web.Request, handler: Handler) -> web.StreamResponse:
         """Lets in who has a secret, and only if the page that asks is one of this site."""
-        who = self.book.who(request.cookies.get(COOKIE, ""))
+        who = await self.who(request.cookies.get(COOKIE, ""))
         if request.transport is not None:
             self.doors.has_asked(request.transport, who)
         if request.host not in self.hosts:
@@ -190,7 +225,7 @@ class Site:
     async def enter(self, request: web.Request) -> web.Response:
         """Takes the secret out of the address bar and into a cookie."""
         secret = request.match_info["secret"]
-        if self.book.who(secret) is None:
+        if await self.who(secret) is None:
             return plain(STRANGER, 401)
         answer = page(ENTER)
         answer.set_cookie(
@@ -243,13 +278,16 @@ class Site:
             raise web.HTTPBadRequest(text="the request isn't as the page sends it\n") from None
 
     async def run(self, desk: Desk, asked: dict[str, Any]) -> dict[str, Any]:
-        """Keeps the text, and runs it."""
-        await self.keep(desk, asked)
-        async with self.turn(desk):
-            try:
-                return await desk.run(program_of(asked), asked["send"])
-            except Wrong as wrong:
-                return {"error": f"{wrong}"}
+        """Keeps the text, and runs it meanwhile; the answer is given when both are done."""
+        program = program_of(asked)
+        kept = asyncio.ensure_future(self.keep(desk, asked))
+        try:
+            async with self.turn(desk):
+                return await desk.run(program, asked["send"])
+        except Wrong as wrong:
+            return {"error": f"{wrong}"}
+        finally:
+            await kept
 
     async def mistakes(self, desk: Desk, asked: dict[str, Any]) -> dict[str, Any]:
         """What is wrong with a text that is being written."""
@@ -310,7 +348,8 @@ class Site:
 
     async def keep(self, desk: Desk, asked: dict[str, Any]) -> dict[str, Any]:
         """Keeps a version of a text."""
-        self.book.keep(desk.name, *program_of(asked))
+        program = program_of(asked)
+        await self.booked(lambda book: book.keep(desk.name, *program))
         return {}
 
     async def verbs(self, request: web.Request) -> web.Response:
@@ -331,16 +370,17 @@ class Site:
         """When the versions of a student's text were kept, the newest first, or the one of a number."""
         name, number = self.looked_at(request).name, request.query.get("number", "")
         if number.isascii() and number.isdigit() and len(number) < 16:
-            it = self.book.version(name, int(number))
+            it = await self.booked(lambda book: book.version(name, int(number)))
             if it is None:
                 raise web.HTTPNotFound
             return web.json_response(it._asdict())
-        return web.json_response([{"number": number, "at": at} for number, at in self.book.versions(name)])
+        there = await self.booked(lambda book: book.versions(name))
+        return web.json_response([{"number": number, "at": at} for number, at in there])
 
     async def text(self, request: web.Request) -> web.Response:
         """The newest version of a student's text, for the student or the teacher."""
         name = self.looked_at(request).name
-        newest = self.book.newest(name)
+        newest = await self.booked(lambda book: book.newest(name))
         return web.json_response({"name": name, **(newest._asdict() if newest else {})})
 
     async def film(self, request: web.Request) -> web.Response:
@@ -375,20 +415,13 @@ class Site:
             number, state = await desk.after(number)
             await asyncio.wait_for(stream.send_str(json.dumps(state)), BODY_SECONDS)
 
-    def last_change(self) -> int:
-        """When what is kept of the class was written last."""
-        try:
-            return os.stat(os.path.join(self.course, CLASS)).st_mtime_ns
-        except OSError:
-            return 0
-
     async def watch(self) -> None:
         """Looks who is connected, and who has come into the class."""
-        changed = self.last_change()
+        changed = self.written(CLASS)
         while True:
             await asyncio.sleep(LOOK_SECONDS)
             self.doors.look()
-            if self.last_change() != changed:
-                changed = self.last_change()
+            if self.written(CLASS) != changed:
+                changed = self.written(CLASS)
                 with contextlib.suppress(Refused, OSError, sqlite3.Error):
                     await asyncio.to_thread(self.came)

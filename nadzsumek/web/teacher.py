@@ -58,7 +58,8 @@ class Teacher:
     async def submissions(self, request: web.Request) -> web.Response:
         """What was handed in, the newest first: by whom, for which exercise, when, with which result."""
         self.check(request)
-        course, newest = self.site.course, self.site.book.submissions()[::-1][:MOST_SHOWN]
+        course, every = self.site.course, await self.site.booked(lambda book: book.submissions())
+        newest = every[::-1][:MOST_SHOWN]
         told: list[dict[str, Any]] = [
             {"number": it.number, "name": it.name, "person": person_of(course, it.name), "exercise": it.exercise}
             | {"at": it.at, "points": it.points, "of": it.most, "remark": it.remark, "kind": it.kind, "text": it.text}
