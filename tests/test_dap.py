@@ -186,7 +186,8 @@ def test_processes_are_threads(editor: Editor, folder: str) -> None:
     editor.next_event("stopped")
     threads = editor.must("threads")["threads"]
     lines = [editor.must("stackTrace", threadId=it["id"])["stackFrames"][0]["line"] for it in threads]
-    assert ([it["name"].endswith("waits") for it in threads], sorted(lines)) == ([True, True], [5, 8])
+    waits = sorted(it["name"].partition(" waits ")[2] for it in threads)
+    assert (waits, sorted(lines)) == (["to receive by c", "to receive by d"], [5, 8])
 
 
 def test_refusals(editor: Editor, folder: str) -> None:
@@ -204,7 +205,7 @@ def test_refusals(editor: Editor, folder: str) -> None:
         told = editor.ask(command, **words)
         assert (command, told["success"], bool(told["message"])) == (command, False, True)
     put(f"{folder}/wrong.occ", "nonsense\n")
-    assert "line 1" in editor.ask("launch", program=f"{folder}/wrong.occ")["message"]
+    assert "wrong.occ:1:9: " in editor.ask("launch", program=f"{folder}/wrong.occ")["message"]
     assert editor.end() == 0
 
 

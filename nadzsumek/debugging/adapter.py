@@ -247,7 +247,7 @@ class Adapter:
                 {
                     "id": thread,
                     "name": f"node {it.node} "
-                    + (f"process {it.workspace:08x} {it.state}" if it.workspace else it.state),
+                    + (f"process {it.workspace:08x} {it.state} {it.wait}".rstrip() if it.workspace else it.state),
                 }
                 for thread, it in sorted(self.seen.items())
             ]

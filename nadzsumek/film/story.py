@@ -13,7 +13,7 @@ from typing import Any
 from ..debugging.engine import Engine, Process, Refused
 
 # How many moments are asked at most, and how long that may take.
-MOST_MOMENTS, MOST_SECONDS = 20_000, 20.0
+MOST_MOMENTS, MOST_SECONDS = 20_000, 8.0
 # The bytes of instructions by which processes start, end and wait, and those that store a word: the functions stl and stnl.
 ENDING = 0xF3
 SWITCHING = frozenset((ENDING, 0xF7, 0xFB, 0xFD, 0xFE, 0xFF))
