@@ -1,10 +1,13 @@
 """Runs whose nodes each count down in a loop: a plan, the lines of its users, and what they must be answered."""
+
+from collections.abc import Sequence
+
 LIMIT = 1 << 40
 ROUND_BYTES = 8
 COUNT = "80000074"
 
 
-def plan_of(shape, memory):
+def plan_of(shape: Sequence[int], memory: int) -> str:
     """Domains with a host each behind the ports of link 0 of their nodes."""
     text, first = "version = 1\n", 0
     for domain, nodes in enumerate(shape):
@@ -16,7 +19,7 @@ def plan_of(shape, memory):
     return text
 
 
-def code_of(rounds):
+def code_of(rounds: int) -> str:
     """What a node does, from 80000048 on: it waits for a byte on link 0, and counts down in word 80000074."""
     digits = f"{rounds:08x}"
     count = "".join(f"2{it}" for it in digits[:-1]) + "4" + digits[-1]
@@ -37,9 +40,9 @@ def code_of(rounds):
     )
 
 
-def script_of(user, nodes, rounds, quantum):
+def script_of(user: str, nodes: int, rounds: int, quantum: int) -> list[str]:
     """A user's lines: boot each node, join the host with all of them, let them go, settle until they ended, and look."""
-    script, each = [], []
+    script, each = list[str](), list[str]()
     for node in range(nodes):
         each.append(f"{user} config 0401{node:02x}{nodes:02x}03")
         script += [each[node], f"{user} boot 0 {code_of(rounds)}"]
@@ -51,14 +54,14 @@ def script_of(user, nodes, rounds, quantum):
     return script
 
 
-def text_of(shape, memory, rounds, quantum):
+def text_of(shape: Sequence[int], memory: int, rounds: int, quantum: int) -> str:
     """A plan, and the script of all its users."""
-    script = []
+    script = list[str]()
     for domain, nodes in enumerate(shape):
         script += script_of(f"u{domain}", nodes, rounds, quantum)
     return plan_of(shape, memory) + "---\n" + "\n".join(script) + "\n"
 
 
-def have_ended(printed, nodes):
+def have_ended(printed: str, nodes: int) -> bool:
     """Whether each node has counted down to 0."""
     return [line.split(" ")[3] for line in printed.splitlines() if " peek " in line] == ["00000000"] * nodes

@@ -19,7 +19,7 @@ def sources() -> list[str]:
 
 
 def test_types() -> None:
-    """The files that pyproject.toml names: all but those of bench/."""
+    """The files that pyproject.toml names: all but bench/class, as `class` has its name."""
     status, output, errors = run(["/usr/bin/python3", "-m", "mypy"], folder=TOP, seconds=300)
     assert status == 0, (output + errors).decode()
 
