@@ -120,11 +120,13 @@ def changing(course: str) -> Iterator[Change]:
 
 
 @contextlib.contextmanager
-def undisturbed() -> Iterator[None]:
-    """Passes over Ctrl-C and other signals that would end this, so that nothing is left half done."""
-    before = {it: signal.signal(it, lambda *_: None) for it in (signal.SIGINT, signal.SIGTERM, signal.SIGHUP)}
+def undisturbed() -> Iterator[list[int]]:
+    """Passes over Ctrl-C and other signals that would end this, so that nothing is left half done, and notes them."""
+    noted: list[int] = []
+    ends = (signal.SIGINT, signal.SIGTERM, signal.SIGHUP)
+    before = {it: signal.signal(it, lambda number, _: noted.append(number)) for it in ends}
     try:
-        yield
+        yield noted
     finally:
         for it, does in before.items():
             signal.signal(it, does)
@@ -314,7 +316,7 @@ class Change:
         stopping = [farm for farm in self.touched if farm in up]
         before = {farm: outs(farm) for farm in stopping}
         begun, why = time.monotonic(), ""
-        with undisturbed(), away(self.course, stopping):
+        with undisturbed() as noted, away(self.course, stopping):
             try:
                 draft = Replacement(self.course)
                 for path, text in self.files.items():
@@ -327,12 +329,16 @@ class Change:
             begin_surely(starts)
         if why:
             refuse(why, starts)
-        return self.started(starts, stopping, before, begun)
+        return self.started(starts, stopping, before, begun, bool(noted))
 
-    def started(self, starts: list[Start], stopping: list[str], before: dict[str, set[str]], begun: float) -> int:
+    def started(
+        self, starts: list[Start], stopping: list[str], before: dict[str, set[str]], begun: float, is_ended: bool
+    ) -> int:
         """Starts farms, and says how long each was away. If one can't be started, or a record can't be taken any more, all is
-        made as it was."""
+        made as it was. Nobody waits for the farms if this is to end."""
         try:
+            if is_ended:
+                raise KeyboardInterrupt
             wrong = [f"{it.name}: {it.told_at_last()}" for it in all_done(starts)]
             wrong += [
                 f"{it.name}: the record of {', '.join(sorted(more))} can't be taken, see {it.log}"
