@@ -112,11 +112,16 @@ def test_a_bound_of_time_is_told() -> None:
     assert told == ["line 1, column 1: fault 50: expected a text that is compiled in 1 s"]
 
 
+# A text that is compiled within some bound, in a process that has no memory to spare from earlier work.
+LARGE = """from nadzsumek.occam.bounded import bounded_unit
+
+print(bounded_unit(b"INT x:\\nSEQ\\n" + b"  x := 1\\n" * 20_000, megabytes=40))
+"""
+
+
 def test_a_bound_of_memory_is_told() -> None:
-    text = b"INT x:\nSEQ\n" + b"  x := 1\n" * 20_000
-    assert (
-        "fault 50: expected a text that is compiled with" in json.loads(bounded_unit(text, megabytes=40))["mistakes"][0]
-    )
+    told = json.loads(run("-c", LARGE, folder=TOP).stdout)["mistakes"]
+    assert "fault 50: expected a text that is compiled with 40 MB" in told[0]
 
 
 def test_a_text_that_is_too_long_is_told_without_a_process() -> None:
