@@ -301,10 +301,17 @@ def wrong_rows(records: str) -> tuple[int, list[str]]:
     return rows, faults
 
 
+class Roomy(Served):
+    """A farm with rooms that the lines of an hour don't fill."""
+
+    def call(self, *more: str) -> list[str]:
+        return super().call("--room", "1G", "--record-room", "8G", *more)
+
+
 @pytest.mark.long
 def test_soak(minutes: float, seed: int) -> None:
     names = [f"user-{it}" for it in range(USERS)]
-    with Served(plan_of_users(names)) as served:
+    with Roomy(plan_of_users(names)) as served:
         users = [User(served, it, seed) for it in range(USERS)]
         end = time.monotonic() + 60 * minutes
         operator = Operator(served, random.Random(f"{seed} operator"), end)
