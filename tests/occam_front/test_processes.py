@@ -7,11 +7,11 @@ import subprocess
 import sys
 import time
 from pathlib import Path
-from typing import Protocol
+from typing import Any, Protocol
 
 import pytest
 
-from nadzsumek.occam.bounded import bounded_unit
+from nadzsumek.occam.bounded import MEGABYTES, SECONDS
 
 TOP = Path(__file__).resolve().parents[2]
 ASKING = TOP / "nadzsumek/occam/asking.py"
@@ -101,31 +101,41 @@ def test_a_signal_ends_both_quietly(tmp_path: Path, number: signal.Signals) -> N
         assert running.stderr.read() == b""
 
 
+# Asks for the unit of a text in a process that has no memory of earlier work, neither to spare nor to count.
+UNIT = """import sys
+
+from nadzsumek.occam.bounded import bounded_unit
+
+print(bounded_unit(sys.stdin.buffer.read(), seconds={seconds}, megabytes={megabytes}))
+"""
+
+
+def unit(text: bytes, seconds: int = SECONDS, megabytes: int = MEGABYTES) -> dict[str, Any]:
+    """The unit of a text within these bounds."""
+    call = [sys.executable, "-B", "-c", UNIT.format(seconds=seconds, megabytes=megabytes)]
+    told: dict[str, Any] = json.loads(
+        subprocess.run(call, input=text, stdout=subprocess.PIPE, cwd=TOP, check=True).stdout
+    )
+    return told
+
+
 def test_a_text_of_somebody_else_has_the_same_unit() -> None:
-    found = json.loads(bounded_unit(b"INT x:\nx := 2\n"))
+    found = unit(b"INT x:\nx := 2\n")
     assert found["mistakes"] == [] and found["processes"] == [{"Assign": [0, 0]}, {"Line": [2, 1, 0]}]
 
 
 def test_a_bound_of_time_is_told() -> None:
     text = b"CHAN OF BYTE to:\nPLACE to AT 0:\nSEQ\n" + b'  out.string ("ab", to)\n' * 20_000
-    told = json.loads(bounded_unit(text, seconds=1))["mistakes"]
-    assert told == ["line 1, column 1: fault 50: expected a text that is compiled in 1 s"]
-
-
-# A text that is compiled within some bound, in a process that has no memory to spare from earlier work.
-LARGE = """from nadzsumek.occam.bounded import bounded_unit
-
-print(bounded_unit(b"INT x:\\nSEQ\\n" + b"  x := 1\\n" * 20_000, megabytes=40))
-"""
+    assert unit(text, seconds=1)["mistakes"] == ["line 1, column 1: fault 50: expected a text that is compiled in 1 s"]
 
 
 def test_a_bound_of_memory_is_told() -> None:
-    told = json.loads(run("-c", LARGE, folder=TOP).stdout)["mistakes"]
-    assert "fault 50: expected a text that is compiled with 40 MB" in told[0]
+    text = b"INT x:\nSEQ\n" + b"  x := 1\n" * 20_000
+    assert "fault 50: expected a text that is compiled with 40 MB" in unit(text, megabytes=40)["mistakes"][0]
 
 
 def test_a_text_that_is_too_long_is_told_without_a_process() -> None:
-    told = json.loads(bounded_unit(b"-" * 1_000_001, seconds=0))["mistakes"]
+    told = unit(b"-" * 1_000_001, seconds=0)["mistakes"]
     assert told == ["line 1, column 1: fault 44: expected a text of at most 65535 lines and 1000000 bytes"]
 
 
