@@ -21,7 +21,7 @@ impl Service {
     }
 }
 
-// Who has a session of a domain lets it rest, and nobody else: a domain is named by its users' sessions alone.
+// By a session its user's own domain is halted and bounded, so who has the sessions of one domain can't halt another.
 impl Session<'_> {
     /// Lets the nodes and packets of the user's domain rest until it is restarted, since memory ran out.
     pub fn halt(&self) {
